@@ -7,7 +7,7 @@ ghost use Rattle.outside_io.specs.Causes.{Rose};
 ghost use Rattle.outside_io.specs.Memory.{next_count};
 ghost use Rattle.rows_text.specs.Meaning.{TagsAre};
 ghost use Rattle.rows_text.specs.Texts.{text};
-ghost use Rattle.log_model.specs.Grammar.{IsLawfulLog};
+ghost use Rattle.log_model.specs.Grammar.{IsValidLog};
 ghost use Rattle.answer_texts.specs.Answered.{framed, if_any};
 ghost use Rattle.answer_texts.specs.Put.{IsCut};
 
@@ -34,7 +34,7 @@ pub fn add_texts(
     replies: &mut Vec<u8>,
     frames: &mut Vec<u8>,
 ) -> Result<(), Memory>
-    requires spelled { MatchOption log.now (Unit {0}) IsLawfulLog }
+    requires spelled { MatchOption log.now (Unit {0}) IsValidLog }
     requires tagged { show ≡ true → TagsAre reply.now }
     ensures reply { OnOk result (replies.new.items ≡ replies.old.items ++ text show reply.now) }
     ensures frame { OnOk result (frames.new.items ≡ frames.old.items ++ framed (if_any log.now)) }
@@ -54,7 +54,7 @@ pub fn texts_of(
     log: &Option<Log>,
     show: bool,
 ) -> Result<Texts, Memory>
-    requires spelled { MatchOption log.now (Unit {0}) IsLawfulLog }
+    requires spelled { MatchOption log.now (Unit {0}) IsValidLog }
     requires tagged { show ≡ true → TagsAre reply.now }
     ensures reply { IfOk result (λ texts. texts.reply.items ≡ text show reply.now) }
     ensures frame { IfOk result (λ texts. texts.frame.items ≡ framed (if_any log.now)) }

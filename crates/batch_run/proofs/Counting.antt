@@ -11,12 +11,12 @@ use Rattle.image_answers.specs.declared.outcome.Outcome.TheVariants as outcome
 use Rattle.image_answers.specs.Outcomes.{IsOutcomeOf}
 
 -- there are as many objects as the slot tells
-counted : (s : Space) (live : Live) (image : List ℕ) → length (points_in s.words live image) ≡ live.count
-counted s live image = length-points (objects (nodes_in s.words live image) live) 0 live.count
+counted : (s : Space) (live : Live) (image : List ℕ) → length (points_in s.dimension live image) ≡ live.count
+counted s live image = length-points (objects (nodes_in s.dimension live image) live) 0 live.count
 
 pub count_is : (s : Space) (live : Live) (image : List ℕ) → IsOutcomeOf s live image command.Count (outcome.Done (reply.Count live.count) None)
 count_is s live image = record {
   meant = λ sound. record { meaning = λ limit. ap (λ (n : ℕ). reply.Count n) (sym (counted s live image)); logged = refl };
   told = ((λ limit. ap (λ (n : ℕ). reply.Count n) (sym (counted s live image))), refl);
-  lawful = (tt, refl);
+  valid = (tt, refl);
 }

@@ -23,17 +23,17 @@ module _ (disk : DiskState) (m pages : ℕ) where
   pub record IsRest (from : ℕ) (parts : List (List ℕ)) : Type 0 where
     pub are : AreParts m parts
     pub size : length (concat parts) ≡ 4096 * (pages - from)
-    pub told : IsTrue disk.tells → HasBytes disk.bytes from (concat parts)
+    pub told : IsTrue disk.is_known → HasBytes disk.bytes from (concat parts)
 
   pub joined : (from : ℕ) (parts : List (List ℕ)) → AreRead from parts → IsRest from parts
-  joined from [] read = record { are = tt; size = omega (arith, read); told = λ tells k below. absurd (omega (arith, below)) }
+  joined from [] read = record { are = tt; size = omega (arith, read); told = λ is_known k below. absurd (omega (arith, below)) }
   joined from (last ∷ []) read =
       let short : min m (pages - from) ≡ pages - from = min-eq_right (omega (arith, read.2)) in
       let size : length last ≡ 4096 * (pages - from) = read.1.size ∙ ap (λ (n : ℕ). 4096 * n) short in
       record {
         are = omega (arith, size, read.2);
         size = ap length (append-nil last) ∙ size;
-        told = λ tells. subst (HasBytes disk.bytes from) (sym (append-nil last)) (read.1.told tells);
+        told = λ is_known. subst (HasBytes disk.bytes from) (sym (append-nil last)) (read.1.told is_known);
       }
   joined from (part ∷ next ∷ parts) read =
       let rest = joined (from + m) (next ∷ parts) read.2 in
@@ -42,12 +42,12 @@ module _ (disk : DiskState) (m pages : ℕ) where
       record {
         are = (size, rest.are);
         size = length-append part (concat (next ∷ parts)) ∙ omega (arith, size, rest.size, read.2.0);
-        told = λ tells k below. elim (cases_lt k (4096 * m)) [
-          | inl first ↦ get_or_append_left part (concat (next ∷ parts)) 0 k (omega (arith, size, first)) ∙ read.1.told tells k (omega (arith, size, first))
+        told = λ is_known k below. elim (cases_lt k (4096 * m)) [
+          | inl first ↦ get_or_append_left part (concat (next ∷ parts)) 0 k (omega (arith, size, first)) ∙ read.1.told is_known k (omega (arith, size, first))
           | inr later ↦
               let here : 4096 * (from + m) + (k - 4096 * m) ≡ 4096 * from + k = omega (arith, later) in
               get_or-append_right part (concat (next ∷ parts)) (4096 * m) k 0 size later
-              ∙ rest.told tells (k - 4096 * m) (omega (arith, below, size, later, length-append part (concat (next ∷ parts))))
+              ∙ rest.told is_known (k - 4096 * m) (omega (arith, below, size, later, length-append part (concat (next ∷ parts))))
               ∙ ap (slice_index disk.bytes) here
         ];
       }
@@ -89,10 +89,10 @@ module _ (disk : DiskState) (m pages : ℕ) where
       whole = subst (λ (n : ℕ). pages ≤ n * m) (let none : pages / m + min 1 (pages % m) ≡ 0 + length parts = omega (arith, count) in none) (div_ceil_times pages m some).0
 
   -- so they are its image
-  pub is_image : (parts : List (List ℕ)) → IsRest 0 parts → IsTrue disk.tells → IsImageOf pages disk.bytes (concat parts)
-  is_image parts rest tells = record {
+  pub is_image : (parts : List (List ℕ)) → IsRest 0 parts → IsTrue disk.is_known → IsImageOf pages disk.bytes (concat parts)
+  is_image parts rest is_known = record {
     size = omega (arith, rest.size);
-    bytes = λ i below. rest.told tells i (omega (arith, rest.size, below)) ∙ ap (slice_index disk.bytes) (let here : 4096 * 0 + i ≡ i = omega arith in here);
+    bytes = λ i below. rest.told is_known i (omega (arith, rest.size, below)) ∙ ap (slice_index disk.bytes) (let here : 4096 * 0 + i ≡ i = omega arith in here);
   }
 
   -- the same of what was left at the places of the parts

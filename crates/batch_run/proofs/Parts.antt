@@ -42,8 +42,8 @@ tried_if_ok s live disk es (Ok v) long each = all_tried s live disk 0 es v.items
 tried_if_ok s live disk es (Err e) long each = tt
 
 -- parts without a fault were walked
-pub tried_walked : (s : Space) (live : Live) (disk : DiskState) (first : ℕ) (es : List InnerEntry) (parts : List Part) → IsTrue disk.tells →
-    AreTried s live disk first es (map (λ part. Ok part) parts) → AreWalked s (reading s.words live.pages disk.bytes) live first es parts
+pub tried_walked : (s : Space) (live : Live) (disk : DiskState) (first : ℕ) (es : List InnerEntry) (parts : List Part) → IsTrue disk.is_known →
+    AreTried s live disk first es (map (λ part. Ok part) parts) → AreWalked s (reading s.dimension live.pages disk.bytes) live first es parts
 tried_walked s live disk first [] [] told tried = tt
 tried_walked s live disk first [] (part ∷ parts) told tried = absurd tried
 tried_walked s live disk first (e ∷ es) [] told tried = absurd tried
@@ -51,21 +51,21 @@ tried_walked s live disk first (e ∷ es) (part ∷ parts) told tried = (tried.0
 
 -- a root is read
 abbrev pub IsRootWith : Space → Live → DiskState → List InnerEntry → Type 0
-IsRootWith s live disk es = IsTrue disk.tells → reading s.words live.pages disk.bytes live.root ≡ Ok (Inner live.height es)
+IsRootWith s live disk es = IsTrue disk.is_known → reading s.dimension live.pages disk.bytes live.root ≡ Ok (Inner live.height es)
 
 -- the numbers of a tree whose parts are apart
 numbers : (s : Space) (live : Live) (disk : DiskState) (es : List InnerEntry) (parts : List Part) (a : Audited) → PartsMakeTheWhole → 1 ≤ live.height →
-    IsRootWith s live disk es → IsFilled s.words (root_least live.height) (length es) → AreTried s live disk 0 es (map (λ part. Ok part) parts) →
+    IsRootWith s live disk es → IsFilled s.dimension (root_least live.height) (length es) → AreTried s live disk 0 es (map (λ part. Ok part) parts) →
     AreApart live parts → a.objects ≡ live.count → a.nodes ≡ length (live.root ∷ pages_met parts) → AreNumbersOn s live disk a
 numbers s live disk es parts a law above root full tried apart objects nodes = record {
   objects = objects;
   told = λ told.
-      let whole = law s (reading s.words live.pages disk.bytes) live es parts above (root told) full (tried_walked s live disk 0 es parts told tried) apart in
+      let whole = law s (reading s.dimension live.pages disk.bytes) live es parts above (root told) full (tried_walked s live disk 0 es parts told tried) apart in
       record { sound = whole.0; objects = objects; nodes = nodes ∙ ap length (sym whole.1) };
 }
 
 pub numbers_if_some : {E : Type 0} (s : Space) (live : Live) (disk : DiskState) (es : List InnerEntry) (parts : List Part) (r : Result (Option Audited) E) → PartsMakeTheWhole → 1 ≤ live.height →
-    IsRootWith s live disk es → IsFilled s.words (root_least live.height) (length es) → AreTried s live disk 0 es (map (λ part. Ok part) parts) →
+    IsRootWith s live disk es → IsFilled s.dimension (root_least live.height) (length es) → AreTried s live disk 0 es (map (λ part. Ok part) parts) →
     IfOk r (λ o. MatchOption o (AreApart live parts → ⊥) (λ a. AreApart live parts)) → IfOk r (λ o. IfSome o (λ a. a.objects ≡ live.count)) → IfOk r (λ o. IfSome o (λ a. a.nodes ≡ length (live.root ∷ pages_met parts))) →
     IfOk r (λ o. IfSome o (AreNumbersOn s live disk))
 numbers_if_some s live disk es parts (Ok (Some a)) law above root full tried apart objects nodes = numbers s live disk es parts a law above root full tried apart objects nodes

@@ -17,13 +17,13 @@ use Rattle.tree_audit.specs.Parts.{met_in, part_told}
 
 -- what the audit of an image tells
 abbrev pub audit_of : Space → Live → List ℕ → Option AuditFault
-audit_of s live image = audit_fault s (reading s.words live.pages image) live
+audit_of s live image = audit_fault s (reading s.dimension live.pages image) live
 
 -- the numbers of an image without a fault
 pub record AreNumbersOf (s : Space) (live : Live) (image : List ℕ) (a : Audited) : Type 0 where
   pub sound : audit_of s live image ≡ None
   pub objects : a.objects ≡ live.count
-  pub nodes : a.nodes ≡ length (pages_at (nodes_in s.words live image) live.height live.root)
+  pub nodes : a.nodes ≡ length (pages_at (nodes_in s.dimension live image) live.height live.root)
 
 -- the first fault of an image, or out of memory; there is no disk that may fail
 abbrev pub IsFaultOf : Space → Live → List ℕ → AuditFault → Type 0
@@ -38,7 +38,7 @@ IsFaultOf s live image fault = audit_of s live image ≡ Some fault
 
 -- what the walk of an entry of the root met, where it has no fault and the disk tells its bytes
 abbrev pub IsPartOf : Space → Live → DiskState → ℕ → InnerEntry → Part → Type 0
-IsPartOf s live disk i e part = IsTrue disk.tells → part_told s (reading s.words live.pages disk.bytes) live i e ≡ Ok (met_in part)
+IsPartOf s live disk i e part = IsTrue disk.is_known → part_told s (reading s.dimension live.pages disk.bytes) live i e ≡ Ok (met_in part)
 
 -- the entries of the root from place `i` on were walked, each by itself, and `parts` has what was met below those without a fault
 abbrev pub AreTried : Space → Live → DiskState → ℕ → List InnerEntry → List (Result Part AuditFault) → Type 0
@@ -51,4 +51,4 @@ AreTried s live disk i (e ∷ es) (Err fault ∷ parts) = AreTried s live disk (
 -- the numbers of a tree without a fault, where the disk tells its bytes
 pub record AreNumbersOn (s : Space) (live : Live) (disk : DiskState) (a : Audited) : Type 0 where
   pub objects : a.objects ≡ live.count
-  pub told : IsTrue disk.tells → AreNumbersOf s live disk.bytes a
+  pub told : IsTrue disk.is_known → AreNumbersOf s live disk.bytes a

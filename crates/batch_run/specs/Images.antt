@@ -18,7 +18,7 @@ HasBytes file page bytes = (i : ℕ) → i < length bytes → slice_index bytes 
 -- The part of a file from page `from` on was read: it has `part_pages` pages, or as many as are left.
 pub record IsPartRead (disk : DiskState) (part_pages pages from : ℕ) (bytes : List ℕ) : Type 0 where
   pub size : length bytes ≡ 4096 * min part_pages (pages - from)
-  pub told : IsTrue disk.tells → HasBytes disk.bytes from bytes
+  pub told : IsTrue disk.is_known → HasBytes disk.bytes from bytes
 
 -- why a file was not read into memory: there are more than 2^18 pages; the disk failed; or memory ran out
 abbrev pub HasImageCause : ℕ → ℕ → ℕ → ImageFault → Type 0

@@ -38,7 +38,7 @@ fn part_of<D: SharedDisk, M: Metric>(
     let Some(mut reader) = disk.reader(alloc) else {
         return Err(AuditFault::Page(PageFault::Disk));
     };
-    let dim = metric.words() as u8;
+    let dim = metric.dimension() as u8;
     let mut pages = DiskPages::new(&mut reader, dim, live.pages);
     let mut ruler = Meter::new(metric);
     audit_part(
@@ -112,7 +112,7 @@ pub fn sound_by_parts<R: Threads + Sync, D: SharedDisk, M: Metric>(
     let Some(mut reader) = disk.reader(alloc) else {
         return Ok(None);
     };
-    let dim = metric.words() as u8;
+    let dim = metric.dimension() as u8;
     let mut pages = DiskPages::new(&mut reader, dim, live.pages);
     let node = match pages.node(alloc, live.root) {
         Ok(node) => node,
@@ -146,7 +146,7 @@ pub fn audit_image<R: Threads + Sync, M: Metric>(
     live: &Live,
     workers: usize,
 ) -> Result<Audited, AuditFault>
-    requires dim { (M.space metric).words ≡ dim }
+    requires dim { (M.space metric).dimension ≡ dim }
     requires pages { live.now.pages ≤ 2 ^ 24 }
     requires some_workers { 1 ≤ workers }
     requires few_workers { workers ≤ 64 }

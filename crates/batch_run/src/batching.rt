@@ -30,7 +30,7 @@ pub fn outcome_of<M: Metric>(
 ) -> Result<Outcome, Memory>
     requires few { live.now.pages ≤ 2 ^ 24 }
     requires pages { ArePagesOf (M.space metric) live.now (bytes_in pages.old.inner.image) pages.old }
-    requires readable { IsReadable (M.space metric).words command.now }
+    requires readable { IsReadable (M.space metric).dimension command.now }
     ensures given { IfOk result (IsGivenOf tags (M.space metric) live.now (bytes_in pages.old.inner.image) command.now) }
     ensures whole { tags ≡ true → IfOk result (IsOutcomeOf (M.space metric) live.now (bytes_in pages.old.inner.image) command.now) }
     ensures same { ArePagesOf (M.space metric) live.now (bytes_in pages.old.inner.image) pages.new }
@@ -59,7 +59,7 @@ fn outcome_on<M: Metric>(
     command: &Command,
 ) -> Result<Outcome, Memory>
     requires pages { live.now.pages ≤ 2 ^ 24 }
-    requires readable { IsReadable (M.space metric).words command.now }
+    requires readable { IsReadable (M.space metric).dimension command.now }
     ensures { IfOk result (IsOutcomeOf (M.space metric) live.now image.now command.now) }
 {
     let mut pages = cached_pages(alloc, Image::Whole(image), metric, live, KEPT_NODES)?;
@@ -83,14 +83,14 @@ pub fn batch<R: Threads + Sync, M: Metric>(
     workers: usize,
 ) -> Result<Vec<Outcome>, Memory>
     requires pages { live.now.pages ≤ 2 ^ 24 }
-    requires readable { All (IsReadable (M.space metric).words) commands.now }
+    requires readable { All (IsReadable (M.space metric).dimension) commands.now }
     requires few { length commands.now < 2 ^ 32 }
     requires some_workers { 1 ≤ workers }
     requires few_workers { workers ≤ 64 }
     ensures { IfOk result (λ outcomes. AllZip (IsOutcomeOf (M.space metric) live.now image.now) commands.now outcomes.items) }
 {
     let work = |i: usize| -> Result<Outcome, Memory>
-        requires { (live.now.pages ≤ 2 ^ 24) × All (IsReadable (M.space metric).words) commands.now × (i < length commands.now) }
+        requires { (live.now.pages ≤ 2 ^ 24) × All (IsReadable (M.space metric).dimension) commands.now × (i < length commands.now) }
         ensures { (c : Command) → IfOk result (IsOutcomeOf (M.space metric) live.entry.now image.entry.now
             (slice_index_or commands.entry.now i c)) }
     { outcome_on(alloc, image, metric, live, &commands[i]) };

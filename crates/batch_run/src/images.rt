@@ -52,7 +52,7 @@ impl From<Failed> for ImageFault {
 /// Clauses: the answer (`image`, `size`); when it succeeds (`few`); what stays (`same`); the cost (`reads`); the cause of an error (`long`,
 /// `cause`); faults of the devices (`done`, `later`).
 pub fn read_image<D: Disk>(alloc: Global, disk: &mut D, pages: u32) -> Result<Vec<u8>, ImageFault>
-    ensures image { IfOk result (λ image. IsTrue (D.state disk.old).tells → IsImageOf pages (D.state disk.old).bytes image.items) }
+    ensures image { IfOk result (λ image. IsTrue (D.state disk.old).is_known → IsImageOf pages (D.state disk.old).bytes image.items) }
     // The size holds also where the disk does not tell its bytes.
     ensures size { IfOk result (λ image. length image.items ≡ pages * 4096) }
     ensures few { IfOk result (λ _. pages ≤ 262144) }
@@ -80,7 +80,7 @@ fn read_part<D: SharedDisk>(
 ) -> Result<Listed<u8>, ImageFault>
     requires { from + pages ≤ 262144 }
     ensures size { IfOk result (λ part. length part ≡ 4096 * pages) }
-    ensures bytes { IfOk result (λ part. IsTrue (D.state disk.now).tells → HasBytes (D.state disk.now).bytes from part) }
+    ensures bytes { IfOk result (λ part. IsTrue (D.state disk.now).is_known → HasBytes (D.state disk.now).bytes from part) }
 {
     let Some(mut reader) = disk.reader(alloc) else {
         return Err(ImageFault::Disk);
@@ -103,7 +103,7 @@ fn parts_by<R: Threads + Sync, D: SharedDisk>(
     requires some_pages { 1 ≤ part_pages }
     requires some_workers { 1 ≤ workers }
     requires few_workers { workers ≤ 64 }
-    ensures image { IfOk result (λ found. IfSome found (λ parts. IsTrue (D.state disk.now).tells →
+    ensures image { IfOk result (λ found. IfSome found (λ parts. IsTrue (D.state disk.now).is_known →
         IsImageOf pages (D.state disk.now).bytes parts)) }
     ensures size { IfOk result (λ found. IfSome found (λ parts. length parts ≡ pages * 4096)) }
 {
@@ -151,7 +151,7 @@ pub fn read_parts<R: Threads + Sync, D: SharedDisk>(
 ) -> Result<Parts, ImageFault>
     requires some_workers { 1 ≤ workers }
     requires few_workers { workers ≤ 64 }
-    ensures image { IfOk result (λ parts. IsTrue (D.state disk.old).tells → IsImageOf pages (D.state disk.old).bytes parts) }
+    ensures image { IfOk result (λ parts. IsTrue (D.state disk.old).is_known → IsImageOf pages (D.state disk.old).bytes parts) }
     // The size holds also where the disk does not tell its bytes.
     ensures size { IfOk result (λ parts. length parts ≡ pages * 4096) }
     ensures few { IfOk result (λ _. pages ≤ 262144) }

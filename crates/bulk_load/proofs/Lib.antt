@@ -8,7 +8,7 @@ pub mod Suited
 pub mod Looped
 pub mod Kept
 pub mod Whole
-pub mod Lawful
+pub mod Valid
 pub mod Heights
 pub mod Committed
 pub mod Ahead

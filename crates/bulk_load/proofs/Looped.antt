@@ -8,7 +8,7 @@ use Rattle.tree_shape.specs.declared.entry.Node.{Node}
 use Rattle.tree_shape.specs.declared.entry.Node.TheVariants.{Inner}
 use Rattle.tree_growth.specs.declared.rules.Group.{Group}
 use Rattle.tree_growth.specs.Bulk.{Load, groups_at}
-use Rattle.bulk_load.specs.Sets.{IsLawfulLoad, IsSetFor, IsGroupFor}
+use Rattle.bulk_load.specs.Sets.{IsValidLoad, IsSetFor, IsGroupFor}
 use Rattle.bulk_load.specs.Postorder.{is_top, group_entry, last_of, below_groups, group_entries, nodes_at}
 use Rattle.bulk_load.proofs.Suited.{groups_fit}
 
@@ -37,21 +37,21 @@ opened l number (suc h) seed set i high =
     ++ Inner (suc h) (group_entries l number seed (λ (g : Group) (j : ℕ). nodes_at l number k (Some g.seed) g.members j) i (groups_at l (is_top seed) (suc h) set)) ∷ [])
     (let e : h ≡ suc h - 1 = omega arith in e)
 
-pub groups_good : (l : Load) → IsSpace l.space → IsLawfulLoad l → (level : ℕ) (seed : Option ℕ) (set : List ℕ) → level ≢ 0 → IsSetFor l (is_top seed) level set →
+pub groups_good : (l : Load) → IsSpace l.space → IsValidLoad l → (level : ℕ) (seed : Option ℕ) (set : List ℕ) → level ≢ 0 → IsSetFor l (is_top seed) level set →
     AllByRecursion (IsGroupFor l (level - 1)) (groups_at l (is_top seed) level set)
-groups_good l space lawful zero seed set high k = absurd (high refl)
-groups_good l space lawful (suc h) seed set high k =
-    subst (λ (x : ℕ). AllByRecursion (IsGroupFor l x) (groups_at l (is_top seed) (suc h) set)) (let e : h ≡ suc h - 1 = omega arith in e) (groups_fit l space lawful (is_top seed) h set k).each
+groups_good l space valid zero seed set high k = absurd (high refl)
+groups_good l space valid (suc h) seed set high k =
+    subst (λ (x : ℕ). AllByRecursion (IsGroupFor l x) (groups_at l (is_top seed) (suc h) set)) (let e : h ≡ suc h - 1 = omega arith in e) (groups_fit l space valid (is_top seed) h set k).each
 
 pub begun : (l : Load) (number : ℕ → ℕ) (level : ℕ) (seed : Option ℕ) (set : List ℕ) (old : List Node) (made : List InnerEntry) (is_root : Bool) (rest : List Group) →
-    IsSpace l.space → IsLawfulLoad l → level ≢ 0 → IsSetFor l (is_top seed) level set → made ≡ [] → is_root ≡ is_top seed → rest ≡ groups_at l is_root level set →
+    IsSpace l.space → IsValidLoad l → level ≢ 0 → IsSetFor l (is_top seed) level set → made ≡ [] → is_root ≡ is_top seed → rest ≡ groups_at l is_root level set →
     Loops l number level seed set old old made rest
-begun l number level seed set old made is_root rest space lawful high k none root is =
+begun l number level seed set old made is_root rest space valid high k none root is =
     let same : rest ≡ groups_at l (is_top seed) level set = is ∙ ap (λ (b : Bool). groups_at l b level set) root in
     record {
       nodes = ap (λ (gs : List Group). old ++ below_groups (group_nodes l number level) (length old) gs) same;
       entries = ap (λ (es : List InnerEntry). es ++ group_entries l number seed (group_nodes l number level) (length old) rest) none ∙ ap (group_entries l number seed (group_nodes l number level) (length old)) same;
-      good = subst (AllByRecursion (IsGroupFor l (level - 1))) (sym same) (groups_good l space lawful level seed set high k);
+      good = subst (AllByRecursion (IsGroupFor l (level - 1))) (sym same) (groups_good l space valid level seed set high k);
     }
 
 -- no group adds more than the set

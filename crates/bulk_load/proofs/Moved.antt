@@ -15,7 +15,7 @@ use Rattle.tree_shape.specs.declared.entry.Node.{Node}
 use Rattle.tree_shape.specs.declared.entry.Node.TheVariants.{Leaf, Inner}
 use Rattle.tree_growth.specs.declared.rules.Group.{Group}
 use Rattle.tree_growth.specs.Bulk.{Load, groups_at}
-use Rattle.bulk_load.specs.Sets.{IsLawfulLoad, IsSetFor, IsGroupFor}
+use Rattle.bulk_load.specs.Sets.{IsValidLoad, IsSetFor, IsGroupFor}
 use Rattle.bulk_load.specs.Postorder.{is_top, last_of, below_groups, group_entry, group_entries, nodes_at}
 use Rattle.bulk_load.specs.Apart.{apart, entry_to, node_to, AreChildrenBelow, IsMadeOf, AreMadeOf}
 use Rattle.bulk_load.specs.declared.sharing.Made.{Made}
@@ -111,12 +111,12 @@ module _ (l : Load) where
           all_append (AreChildrenBelow n) (below_groups b j gs) (Inner (suc h) (group_entries l apart seed b j gs) ∷ []) (below_low b each n j gs (omega (arith, more))) (entries_low seed b some n j gs (omega (arith, more)), tt)
 
 -- a subtree by itself is small
-pub apart_few : (l : Load) → IsSpace l.space → IsLawfulLoad l → length l.points ≤ 2 ^ 24 → (h : ℕ) (g : Group) (set : List ℕ) (old : List Node) → IsGroupFor l h g → set ≡ g.members → old ≡ [] →
+pub apart_few : (l : Load) → IsSpace l.space → IsValidLoad l → length l.points ≤ 2 ^ 24 → (h : ℕ) (g : Group) (set : List ℕ) (old : List Node) → IsGroupFor l h g → set ≡ g.members → old ≡ [] →
     length old + length (nodes_at l apart h (Some g.seed) set (length old)) ≤ 2 ^ 26
-apart_few l space lawful few h g set old good same none =
+apart_few l space valid few h g set old good same none =
     subst (λ (ns : List Node). length ns + length (nodes_at l apart h (Some g.seed) set (length ns)) ≤ 2 ^ 26) (sym none)
     (subst (λ (ks : List ℕ). 0 + length (nodes_at l apart h (Some g.seed) ks 0) ≤ 2 ^ 26) (sym same)
-    (let a = nodes_few l space lawful apart h (Some g.seed) g.members 0 good.1 in
+    (let a = nodes_few l space valid apart h (Some g.seed) g.members 0 good.1 in
     let b = increasing_few (length l.points) g.members (All-from_recursion (λ k. k < length l.points) g.members good.1.places) (increasing 0 g.members good.1.ascends) in omega (arith, a, b, few)))
 
 -- what was made one by one
@@ -133,7 +133,7 @@ pub all_left : (P : InnerEntry → Type 0) (es : List InnerEntry) (k : ℕ) (x d
 all_left P es k x d low all = subst (AllByRecursion P) (sym (drop-set-lt (k + 1) es k x (omega arith))) (subst (AllByRecursion P) (drop_more es k d low) all).1
 
 -- every group of a set makes a subtree
-pub all_good : (l : Load) → IsSpace l.space → IsLawfulLoad l → (level : ℕ) (seed : Option ℕ) (set : List ℕ) (gs : List Group) → level ≢ 0 → IsSetFor l (is_top seed) level set → gs ≡ groups_at l (is_top seed) level set →
+pub all_good : (l : Load) → IsSpace l.space → IsValidLoad l → (level : ℕ) (seed : Option ℕ) (set : List ℕ) (gs : List Group) → level ≢ 0 → IsSetFor l (is_top seed) level set → gs ≡ groups_at l (is_top seed) level set →
     All (IsGroupFor l (level - 1)) gs
-all_good l space lawful level seed set gs high k is =
-    All-from_recursion (IsGroupFor l (level - 1)) gs (subst (AllByRecursion (IsGroupFor l (level - 1))) (sym is) (groups_good l space lawful level seed set high k))
+all_good l space valid level seed set gs high k is =
+    All-from_recursion (IsGroupFor l (level - 1)) gs (subst (AllByRecursion (IsGroupFor l (level - 1))) (sym is) (groups_good l space valid level seed set high k))

@@ -37,13 +37,13 @@ tally_room counts ps i q x low e each =
 
 pub tally_step : (counts : List ℕ) (ps : List Member) (i x : ℕ) (d : Member) → i < length ps → (get_or ps i d).group < length counts → x ≡ get_or counts (get_or ps i d).group x →
     ((a : ℕ) → get_or counts a 0 ≡ in_group a (take i ps)) → (a : ℕ) → get_or (set counts (get_or ps i d).group (x + 1)) a 0 ≡ in_group a (take (i + 1) ps)
-tally_step counts ps i x d low fits e each a = rw (in_group_more a ps i d low) (cases ((get_or ps i d).group == a) refl)
+tally_step counts ps i x d low is_point e each a = rw (in_group_more a ps i d low) (cases ((get_or ps i d).group == a) refl)
   where
     cases : (b : Bool) → ((get_or ps i d).group == a) ≡ b → get_or (set counts (get_or ps i d).group (x + 1)) a 0 ≡ in_group a (take i ps) + (if b then 1 else 0)
     cases true is =
         let same : (get_or ps i d).group ≡ a = grind (arith, nat_tests) in
-        get_or-set_at counts (get_or ps i d).group a (x + 1) 0 (sym same) fits
-        ∙ (let h = now_is counts (get_or ps i d).group x fits e in let w = each (get_or ps i d).group in let k = ap (λ (j : ℕ). in_group j (take i ps)) same in omega arith)
+        get_or-set_at counts (get_or ps i d).group a (x + 1) 0 (sym same) is_point
+        ∙ (let h = now_is counts (get_or ps i d).group x is_point e in let w = each (get_or ps i d).group in let k = ap (λ (j : ℕ). in_group j (take i ps)) same in omega arith)
     cases false is =
         let apart : a ≢ (get_or ps i d).group = grind (arith, nat_tests) in
         get_or-set_other counts (get_or ps i d).group a (x + 1) 0 apart ∙ (let w = each a in omega arith)

@@ -60,20 +60,20 @@ module _ (s : Space) (object : List ℕ) (centres : List (List ℕ)) (apart row 
       ap (λ (l : List ℕ). get_or l (i * length centres + j) 0) are.apart_is ∙ apart_at s centres i j low low2 in
       let here : get_or row i 0 ≡ s.dist object (get_or centres i []) = ap (λ (l : List ℕ). get_or l i 0) (sym is) ∙ get_or-map (s.dist object) centres i [] 0 low in
       let there : get_or row j 0 ≡ s.dist object (get_or centres j []) = ap (λ (l : List ℕ). get_or l j 0) (sym is) ∙ get_or-map (s.dist object) centres j [] 0 low2 in
-      let fits = are.objects_fit 0 [] (omega arith) in
-      let turned = axioms.symmetric (get_or centres i []) object (are.centres_fit i [] low) fits in
-      let triangle = axioms.triangle (get_or centres i []) object (get_or centres j []) (are.centres_fit i [] low) fits (are.centres_fit j [] low2) in
+      let is_point = are.objects_fit 0 [] (omega arith) in
+      let turned = axioms.symmetric (get_or centres i []) object (are.centres_fit i [] low) is_point in
+      let triangle = axioms.triangle (get_or centres i []) object (get_or centres j []) (are.centres_fit i [] low) is_point (are.centres_fit j [] low2) in
       omega (arith, gap, here, there, turned, triangle)
 
 -- the points of places fit where all do
-points_fit : (s : Space) (rows : List (List ℕ)) (set : List ℕ) → All (λ p. IsTrue (s.fits p)) rows → All (λ k. k < length rows) set → All (λ p. IsTrue (s.fits p)) (points_of rows set)
+points_fit : (s : Space) (rows : List (List ℕ)) (set : List ℕ) → All (λ p. IsTrue (s.is_point p)) rows → All (λ k. k < length rows) set → All (λ p. IsTrue (s.is_point p)) (points_of rows set)
 points_fit s rows set fit places i d low =
     let inside : i < length set = subst (λ (n : ℕ). i < n) (length_map (λ k. get_or rows k []) set) low in
-    subst (λ (p : List ℕ). IsTrue (s.fits p)) (sym (get_or-map (λ k. get_or rows k []) set i 0 d inside)) (fit (get_or set i 0) [] (places i 0 inside))
+    subst (λ (p : List ℕ). IsTrue (s.is_point p)) (sym (get_or-map (λ k. get_or rows k []) set i 0 d inside)) (fit (get_or set i 0) [] (places i 0 inside))
 
 -- the points of seeds fit, which are places of a set
-pub centres_fit : (s : Space) (rows : List (List ℕ)) (set seeds : List ℕ) → All (λ p. IsTrue (s.fits p)) rows → All (λ k. k < length rows) set → All (λ k. k < length set) seeds →
-    All (λ p. IsTrue (s.fits p)) (points_of (points_of rows set) seeds)
+pub centres_fit : (s : Space) (rows : List (List ℕ)) (set seeds : List ℕ) → All (λ p. IsTrue (s.is_point p)) rows → All (λ k. k < length rows) set → All (λ k. k < length set) seeds →
+    All (λ p. IsTrue (s.is_point p)) (points_of (points_of rows set) seeds)
 centres_fit s rows set seeds fit places inside =
     points_fit s (points_of rows set) seeds (points_fit s rows set fit places)
     (λ i d low. subst (λ (n : ℕ). get_or seeds i d < n) (sym (length_map (λ k. get_or rows k []) set)) (inside i d low))

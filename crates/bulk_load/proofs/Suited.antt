@@ -19,7 +19,7 @@ use Rattle.tree_growth.proofs.Published.{Fits, count_fits, powers_wide, length_s
 use Rattle.tree_shape.proofs.Published.{three_at_least}
 use Rattle.page_store.specs.Numbers.{Ascends}
 use Rattle.page_store.proofs.Published.{next_at, lower_or}
-use Rattle.bulk_load.specs.Sets.{IsLawfulLoad, IsSetFor, IsGroupFor}
+use Rattle.bulk_load.specs.Sets.{IsValidLoad, IsSetFor, IsGroupFor}
 use Rattle.bulk_load.specs.Postorder.{subtrees, is_top, below_groups, group_entries, nodes_at}
 use Rattle.bulk_load.proofs.Shown.{group_branch}
 
@@ -62,10 +62,10 @@ two_groups zero n room spare more = absurd (omega arith)
 two_groups (suc zero) n room spare more = absurd (omega arith)
 two_groups (suc (suc g)) n room spare more = omega arith
 
-groups_own : (s : Space) (space : IsSpace s) (rows : List (List ℕ)) (tags : List ℕ) (fits : AllByRecursion (λ p. IsTrue (s.fits p)) rows) (is_root : Bool) (h : ℕ) (set : List ℕ) →
-    IsSetFor (load s space rows tags fits) is_root (suc h) set → GroupsFit (load s space rows tags fits) is_root h set
-groups_own s space rows tags fits is_root h set k = record {
-  each = all_weaker (λ (p : Group). IsGood s space rows tags fits (suc h) p × Ascends 0 p.members) (IsGroupFor (load s space rows tags fits) h) (groups_at (load s space rows tags fits) is_root (suc h) set)
+groups_own : (s : Space) (space : IsSpace s) (rows : List (List ℕ)) (tags : List ℕ) (is_point : AllByRecursion (λ p. IsTrue (s.is_point p)) rows) (is_root : Bool) (h : ℕ) (set : List ℕ) →
+    IsSetFor (load s space rows tags is_point) is_root (suc h) set → GroupsFit (load s space rows tags is_point) is_root h set
+groups_own s space rows tags is_point is_root h set k = record {
+  each = all_weaker (λ (p : Group). IsGood s space rows tags is_point (suc h) p × Ascends 0 p.members) (IsGroupFor (load s space rows tags is_point) h) (groups_at (load s space rows tags is_point) is_root (suc h) set)
       (λ p w. (
         w.0.seed_low,
         record {
@@ -77,30 +77,30 @@ groups_own s space rows tags fits is_root h set k = record {
           at_most = (let a = w.0.few in let b = power most h in omega (arith, a, b));
         },
       ))
-      (all_both (IsGood s space rows tags fits (suc h)) (λ (p : Group). Ascends 0 p.members) (groups_at (load s space rows tags fits) is_root (suc h) set)
-      (groups_good s space rows tags fits is_root (suc h) set k.places k.some (omega (arith, some)) (omega (arith, wide)) count)
-      (groups_ascend 0 (seeds_from n g 0 g) set (grouped (entry (table_of (load s space rows tags fits) set (seeds_from n g 0 g))) (least ^ suc h) (most ^ suc h) g n) k.ascends));
+      (all_both (IsGood s space rows tags is_point (suc h)) (λ (p : Group). Ascends 0 p.members) (groups_at (load s space rows tags is_point) is_root (suc h) set)
+      (groups_good s space rows tags is_point is_root (suc h) set k.places k.some (omega (arith, some)) (omega (arith, wide)) count)
+      (groups_ascend 0 (seeds_from n g 0 g) set (grouped (entry (table_of (load s space rows tags is_point) set (seeds_from n g 0 g))) (least ^ suc h) (most ^ suc h) g n) k.ascends));
   two = (let l = long in cases is_root refl l);
   few = (let l = long in let u = group_most most least is_root (most ^ suc h) n (let f = four in omega (arith, f)) in omega (arith, l, u));
 }
   where
     most : ℕ
-    most = most_for s.words
+    most = most_for s.dimension
 
     least : ℕ
-    least = least_for s.words
+    least = least_for s.dimension
 
     n : ℕ
     n = length set
 
     g : ℕ
-    g = group_count (most_for s.words) (least_for s.words) is_root (most_for s.words ^ suc h) (length set)
+    g = group_count (most_for s.dimension) (least_for s.dimension) is_root (most_for s.dimension ^ suc h) (length set)
 
     three : 3 ≤ least
-    three = three_at_least s.words space.few_words
+    three = three_at_least s.dimension space.few_words
 
     four : 4 * least ≤ most
-    four = four_times s space rows tags fits
+    four = four_times s space rows tags is_point
 
     some : 1 ≤ least ^ suc h
     some = power_some least (suc h) (let t = three in omega (arith, t))
@@ -117,29 +117,29 @@ groups_own s space rows tags fits is_root h set k = record {
     count : Fits (least ^ suc h) (most ^ suc h) n g
     count = count_fits most least (most ^ suc h) (least ^ suc h) n is_root three four (let a = some in omega (arith, a)) wide (λ e. k.above e (omega arith)) enough room
 
-    long : length (groups_at (load s space rows tags fits) is_root (suc h) set) ≡ g
-    long = groups_long 0 (seeds_from n g 0 g) set (grouped (entry (table_of (load s space rows tags fits) set (seeds_from n g 0 g))) (least ^ suc h) (most ^ suc h) g n) ∙ length_seeds n g 0 g
+    long : length (groups_at (load s space rows tags is_point) is_root (suc h) set) ≡ g
+    long = groups_long 0 (seeds_from n g 0 g) set (grouped (entry (table_of (load s space rows tags is_point) set (seeds_from n g 0 g))) (least ^ suc h) (most ^ suc h) g n) ∙ length_seeds n g 0 g
 
-    cases : (b : Bool) → is_root ≡ b → length (groups_at (load s space rows tags fits) is_root (suc h) set) ≡ g → 2 ≤ length (groups_at (load s space rows tags fits) is_root (suc h) set)
+    cases : (b : Bool) → is_root ≡ b → length (groups_at (load s space rows tags is_point) is_root (suc h) set) ≡ g → 2 ≤ length (groups_at (load s space rows tags is_point) is_root (suc h) set)
     cases true e l = let t = two_groups g n (most ^ suc h) count.spare (k.above e (omega arith)) in omega (arith, t, l)
     cases false e l =
         let b = group_least most least (most ^ suc h) n in
         let same : g ≡ group_count most least false (most ^ suc h) n = ap (λ (r : Bool). group_count most least r (most ^ suc h) n) e in
         let t = three in omega (arith, b, l, t, same)
 
-module _ (l : Load) (space : IsSpace l.space) (lawful : IsLawfulLoad l) where
-  pub same_load : load l.space space l.points l.tags lawful.fits ≡ l
+module _ (l : Load) (space : IsSpace l.space) (valid : IsValidLoad l) where
+  pub same_load : load l.space space l.points l.tags valid.is_point ≡ l
   same_load =
-      ap (λ (m : ℕ). record { space = l.space; points = l.points; tags = l.tags; most = m; least = least_for l.space.words }) (sym lawful.most)
-      ∙ ap (λ (m : ℕ). record { space = l.space; points = l.points; tags = l.tags; most = l.most; least = m }) (sym lawful.least)
+      ap (λ (m : ℕ). record { space = l.space; points = l.points; tags = l.tags; most = m; least = least_for l.space.dimension }) (sym valid.most)
+      ∙ ap (λ (m : ℕ). record { space = l.space; points = l.points; tags = l.tags; most = l.most; least = m }) (sym valid.least)
 
   pub groups_fit : (is_root : Bool) (h : ℕ) (set : List ℕ) → IsSetFor l is_root (suc h) set → GroupsFit l is_root h set
   groups_fit is_root h set =
-      subst (λ (x : Load). IsSetFor x is_root (suc h) set → GroupsFit x is_root h set) same_load (groups_own l.space space l.points l.tags lawful.fits is_root h set)
+      subst (λ (x : Load). IsSetFor x is_root (suc h) set → GroupsFit x is_root h set) same_load (groups_own l.space space l.points l.tags valid.is_point is_root h set)
 
   pub most_some : 12 ≤ l.most
   most_some =
-      let a = three_at_least l.space.words space.few_words in let b = four_times l.space space l.points l.tags lawful.fits in let c = lawful.most in omega (arith, a, b, c)
+      let a = three_at_least l.space.dimension space.few_words in let b = four_times l.space space l.points l.tags valid.is_point in let c = valid.most in omega (arith, a, b, c)
 
   -- no more than two nodes for each object
   pub nodes_few : (number : ℕ → ℕ) (h : ℕ) (seed : Option ℕ) (set : List ℕ) (i : ℕ) → IsSetFor l (is_top seed) h set → length (nodes_at l number h seed set i) + 1 ≤ 2 * length set

@@ -21,20 +21,20 @@ use Rattle.page_store.specs.Numbers.{number_at, numbered, AreNumbers}
 use Rattle.page_store.specs.Placing.{live_pages, AreOutside, staged_tree}
 use Rattle.page_store.specs.Staging.{pages_of}
 use Rattle.page_store.proofs.Published.{HoldsFrom, pages_from, trees_from, trees_numbered, stand_holds, in_times, times_in, all_each, number_up, number_within, given_once, pages_numbered, given_out, given_apart, given_each, IsStoredAt, sound_of_stored, with_id, tally_ids, tally_count, AreCounted}
-use Rattle.bulk_load.specs.Sets.{top_height, top_nodes, IsLawfulLoad}
+use Rattle.bulk_load.specs.Sets.{top_height, top_nodes, IsValidLoad}
 use Rattle.bulk_load.specs.Postorder.{subtrees_of, last_of}
 use Rattle.bulk_load.specs.Loaded.{Stand, LeavesOld, HasLoaded}
 use Rattle.bulk_load.proofs.Shown.{Shown, shown}
 use Rattle.bulk_load.proofs.Suited.{same_load, most_some}
 use Rattle.bulk_load.proofs.Kept.{IsRow, rows_once, row_of_id, points_all, tags_all}
 
-module _ (l : Load) (space : IsSpace l.space) (lawful : IsLawfulLoad l) (number : ℕ → ℕ) (new : Nodes) (next : Live) (at_root : next.root ≡ last_of number 0 (top_nodes l number)) (at_height : next.height ≡ top_height l)
+module _ (l : Load) (space : IsSpace l.space) (valid : IsValidLoad l) (number : ℕ → ℕ) (new : Nodes) (next : Live) (at_root : next.root ≡ last_of number 0 (top_nodes l number)) (at_height : next.height ≡ top_height l)
     (counted : next.count ≡ length l.points) (holds : HoldsFrom new number 0 (top_nodes l number)) where
   pub is : Shown l new number (top_height l) None (built_at l true (top_height l) (places l)) 0 (top_nodes l number)
   is = shown l new number (top_height l) None (places l) 0 holds
 
   pub built_same : built_of l ≡ built l.space l.points l.tags
-  built_same = sym (ap built_of (same_load l space lawful))
+  built_same = sym (ap built_of (same_load l space valid))
 
   abbrev tall : ℕ → ℕ → Tall
   tall root height = record { height = height; tree = tree_at new height root }
@@ -50,11 +50,11 @@ module _ (l : Load) (space : IsSpace l.space) (lawful : IsLawfulLoad l) (number 
   pub next_ids : AreCounted (objects new next) (length l.points)
   next_ids id =
       tally_ids id (objects new next) ∙ tally_count id (map object_of (objects new next)) ∙ ap (count_by (with_id id)) (sym next_objects ∙ ap objects_of (sym built_same))
-      ∙ load_keeps_objects l (let m = most_some l space lawful in omega (arith, m)) (with_id id) ∙ sym (tally_count id (map (object_at l) (places l))) ∙ rows_once l id (length l.points)
+      ∙ load_keeps_objects l (let m = most_some l space valid in omega (arith, m)) (with_id id) ∙ sym (tally_count id (map (object_at l) (places l))) ∙ rows_once l id (length l.points)
 
   pub next_rows : AllByRecursion (IsRow l.points l.tags) (map object_of (objects new next))
   next_rows = subst (AllByRecursion (IsRow l.points l.tags)) next_objects
-      (built_all l.space space l.points l.tags lawful.fits (IsRow l.points l.tags) true _ _ (each (places l)))
+      (built_all l.space space l.points l.tags valid.is_point (IsRow l.points l.tags) true _ _ (each (places l)))
     where
       each : (ks : List ℕ) → AllByRecursion (λ k. IsRow l.points l.tags (object_at l k)) ks
       each [] = tt
@@ -65,9 +65,9 @@ module _ (l : Load) (space : IsSpace l.space) (lawful : IsLawfulLoad l) (number 
       ∙ points_all (objects new next) 0 l.points (λ k low. ap (λ (j : ℕ). point_of j (objects new next)) (let e : 0 + k ≡ k = omega arith in e) ∙ (row_of_id l.points l.tags (length l.points) (objects new next) next_ids next_rows k low).0)
 
   pub next_tags : tags_by_id new next ≡ l.tags
-  next_tags = ap (tags_from (objects new next) 0) (counted ∙ sym lawful.tagged)
+  next_tags = ap (tags_from (objects new next) 0) (counted ∙ sym valid.tagged)
       ∙ tags_all (objects new next) 0 l.tags (λ k low. ap (λ (j : ℕ). tag_of j (objects new next)) (let e : 0 + k ≡ k = omega arith in e)
-      ∙ (row_of_id l.points l.tags (length l.points) (objects new next) next_ids next_rows k (let t = lawful.tagged in omega (arith, low, t))).1)
+      ∙ (row_of_id l.points l.tags (length l.points) (objects new next) next_ids next_rows k (let t = valid.tagged in omega (arith, low, t))).1)
 
   pub next_pages : (n : ℕ) → times n (live_pages new next) ≡ times n (pages_from number 0 (top_nodes l number))
   next_pages n = ap (λ (k : ℕ). times n (pages_at new next.height k)) at_root ∙ ap (λ (k : ℕ). times n (pages_at new k (last_of number 0 (top_nodes l number)))) at_height ∙ is.pages n
@@ -76,7 +76,7 @@ module _ (l : Load) (space : IsSpace l.space) (lawful : IsLawfulLoad l) (number 
   next_sound up within = record {
     parts = sound_of_stored l.space new next.height (root_least next.height) None next.root
         (subst (λ (k : ℕ). IsStoredAt l.space new next.height None k) (sym at_root) (subst (λ (k : ℕ). IsStoredAt l.space new k None (last_of number 0 (top_nodes l number))) (sym at_height) is.stored))
-        (subst (IsSoundTall l.space) (sym next_tree) (load_is_sound l.space space l.points l.tags lawful.fits));
+        (subst (IsSoundTall l.space) (sym next_tree) (load_is_sound l.space space l.points l.tags valid.is_point));
     within = all_each (IsNodePage next) (live_pages new next) (λ n k.
         let here = in_times n (live_pages new next) k in let same = next_pages n in
         all_in (IsNodePage next) (pages_from number 0 (top_nodes l number)) n (given_each (IsNodePage next) number 0 (length (top_nodes l number)) (top_nodes l number) (omega arith) within)
@@ -96,17 +96,17 @@ empty_pages l space old t sound none = flat t.height (height_is_small l.space ol
     flat zero many = refl
     flat (suc h) many = absurd (let a = many (omega arith) in let b : 1 ≤ 3 ^ suc h = one-le-pow (suc h) 3 (omega arith) in omega (arith, a, b, none))
 
-pub has_loaded : (l : Load) → IsSpace l.space → IsLawfulLoad l → (t : Live) (numbers : List ℕ) (placed : Placed) → t.count ≡ 0 → 3 ≤ t.pages → AreNumbers t.pages numbers →
+pub has_loaded : (l : Load) → IsSpace l.space → IsValidLoad l → (t : Live) (numbers : List ℕ) (placed : Placed) → t.count ≡ 0 → 3 ≤ t.pages → AreNumbers t.pages numbers →
     placed.staged ≡ numbered (number_at numbers t.pages) 0 (top_nodes l (number_at numbers t.pages)) → placed.next.root ≡ last_of (number_at numbers t.pages) 0 (top_nodes l (number_at numbers t.pages)) →
     placed.next.height ≡ top_height l → placed.next.count ≡ t.count + length l.points → placed.next.pages ≡ t.pages + (length (top_nodes l (number_at numbers t.pages)) - length numbers) → placed.left ≡ t.root ∷ [] →
     (new : Nodes) → Stand placed.staged new → HasLoaded l.space l.points l.tags t numbers placed new
-has_loaded l space lawful t numbers placed empty low are staged at_root at_height counted pages left new stand = record {
-  tree = next_tree l space lawful number new placed.next at_root at_height count holds;
-  sound = next_sound l space lawful number new placed.next at_root at_height count holds up within;
-  points = next_points l space lawful number new placed.next at_root at_height count holds;
-  tags = next_tags l space lawful number new placed.next at_root at_height count holds;
-  fresh = ap (map (staged_tree new)) staged ∙ trees_numbered new number 0 (top_nodes l number) ∙ next_fresh l space lawful number new placed.next at_root at_height count holds;
-  pages = λ page. next_pages l space lawful number new placed.next at_root at_height count holds page ∙ ap (times page) (sym (ap pages_of staged ∙ pages_numbered number 0 (top_nodes l number)));
+has_loaded l space valid t numbers placed empty low are staged at_root at_height counted pages left new stand = record {
+  tree = next_tree l space valid number new placed.next at_root at_height count holds;
+  sound = next_sound l space valid number new placed.next at_root at_height count holds up within;
+  points = next_points l space valid number new placed.next at_root at_height count holds;
+  tags = next_tags l space valid number new placed.next at_root at_height count holds;
+  fresh = ap (map (staged_tree new)) staged ∙ trees_numbered new number 0 (top_nodes l number) ∙ next_fresh l space valid number new placed.next at_root at_height count holds;
+  pages = λ page. next_pages l space valid number new placed.next at_root at_height count holds page ∙ ap (times page) (sym (ap pages_of staged ∙ pages_numbered number 0 (top_nodes l number)));
   left = leaves;
 }
   where
@@ -129,7 +129,7 @@ has_loaded l space lawful t numbers placed empty low are staged at_root at_heigh
     leaves old sound outside page =
         let one = empty_pages l space old t sound empty in
         let out = given_out old t numbers outside sound.within in
-        let same = next_pages l space lawful number new placed.next at_root at_height count holds page in (
+        let same = next_pages l space valid number new placed.next at_root at_height count holds page in (
           (λ k.
               let old_one : IsIn page (live_pages old t) = subst (IsIn page) (left ∙ sym one) k in (
                 old_one,
@@ -142,13 +142,13 @@ has_loaded l space lawful t numbers placed empty low are staged at_root at_heigh
         )
 
 -- by the tree whose nodes were staged
-pub has_loaded_by : (l : Load) → IsSpace l.space → IsLawfulLoad l → (t : Live) (numbers : List ℕ) (placed : Placed) (nodes : List Node) (root height added : ℕ) → t.count ≡ 0 → 3 ≤ t.pages → AreNumbers t.pages numbers →
+pub has_loaded_by : (l : Load) → IsSpace l.space → IsValidLoad l → (t : Live) (numbers : List ℕ) (placed : Placed) (nodes : List Node) (root height added : ℕ) → t.count ≡ 0 → 3 ≤ t.pages → AreNumbers t.pages numbers →
     nodes ≡ top_nodes l (number_at numbers t.pages) → root ≡ last_of (number_at numbers t.pages) 0 nodes → height ≡ top_height l → added ≡ length l.points →
     placed.staged ≡ numbered (number_at numbers t.pages) 0 nodes →
     placed.next ≡ record { side = 1 - t.side; generation = t.generation + 1; root = root; height = height; count = t.count + added; pages = t.pages + (length nodes - length numbers) } → placed.left ≡ t.root ∷ [] →
     (new : Nodes) → Stand placed.staged new → HasLoaded l.space l.points l.tags t numbers placed new
-has_loaded_by l space lawful t numbers placed nodes root height added empty low are is at high many staged next left =
-    has_loaded l space lawful t numbers placed empty low are
+has_loaded_by l space valid t numbers placed nodes root height added empty low are is at high many staged next left =
+    has_loaded l space valid t numbers placed empty low are
     (staged ∙ ap (numbered (number_at numbers t.pages) 0) is)
     (ap (λ (n : Live). n.root) next ∙ at ∙ ap (last_of (number_at numbers t.pages) 0) is)
     (ap (λ (n : Live). n.height) next ∙ high)

@@ -27,6 +27,6 @@ all_apart s centres = flat_map (λ c. map (s.dist c) centres) centres
 
 -- objects and centres are points of the space, and `apart` has the distances between the centres
 pub record AreMeasurable (s : Space) (objects centres : List (List ℕ)) (apart : List ℕ) : Type 0 where
-  pub objects_fit : All (λ p. IsTrue (s.fits p)) objects
-  pub centres_fit : All (λ p. IsTrue (s.fits p)) centres
+  pub objects_fit : All (λ p. IsTrue (s.is_point p)) objects
+  pub centres_fit : All (λ p. IsTrue (s.is_point p)) centres
   pub apart_is : apart ≡ all_apart s centres

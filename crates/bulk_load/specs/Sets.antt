@@ -28,11 +28,11 @@ abbrev pub top_nodes : Load → (ℕ → ℕ) → List Node
 top_nodes l number = nodes_at l number (top_height l) None (places l) 0
 
 -- points of the space, with a tag for each, and the fill that the space asks for
-pub record IsLawfulLoad (l : Load) : Type 0 where
-  pub fits : AllByRecursion (λ p. IsTrue (l.space.fits p)) l.points
+pub record IsValidLoad (l : Load) : Type 0 where
+  pub is_point : AllByRecursion (λ p. IsTrue (l.space.is_point p)) l.points
   pub tagged : length l.tags ≡ length l.points
-  pub most : l.most ≡ most_for l.space.words
-  pub least : l.least ≡ least_for l.space.words
+  pub most : l.most ≡ most_for l.space.dimension
+  pub least : l.least ≡ least_for l.space.dimension
 
 -- a set of rows, in order, of a size that a node of level `h` can hold
 pub record IsSetFor (l : Load) (is_root : Bool) (h : ℕ) (set : List ℕ) : Type 0 where

@@ -3,8 +3,8 @@
 ghost use Rattle.std.specs.Prelude.{◌≡◌, ◌≢◌, ◌↔◌, ◌+◌, ◌-◌, ◌*◌, ◌^◌, ◌≤◌, ◌<◌, ◌∷◌, [], All, Err, IsTrue, IfOk, IfErr, None, length};
 ghost use Rattle.tree_growth.specs.Bulk.{height_of, places_from};
 ghost use Rattle.tree_shape.specs.Tree.{Nodes, IsSoundTree};
-ghost use Rattle.node_page.specs.Heads.{IsLawfulHead};
-ghost use Rattle.node_page.specs.Opening.{IsLawfulLive};
+ghost use Rattle.node_page.specs.Heads.{IsValidHead};
+ghost use Rattle.node_page.specs.Opening.{IsValidLive};
 ghost use Rattle.page_store.specs.Staging.{pages_of};
 ghost use Rattle.page_store.specs.Numbers.{AreNumbers};
 ghost use Rattle.page_store.specs.Placing.{AreOutside, IsPlacement};
@@ -12,7 +12,7 @@ ghost use Rattle.page_store.specs.Succession.{StandsByItself};
 ghost use Rattle.bulk_load.specs.Causes.{HasBuildCause, node_count};
 ghost use Rattle.bulk_load.specs.Loaded.{HasLoaded, Stand};
 ghost use Rattle.bulk_load.specs.Postorder.{last_of};
-ghost use Rattle.bulk_load.specs.Sets.{load_by, page_by, IsLawfulLoad, top_height, top_nodes};
+ghost use Rattle.bulk_load.specs.Sets.{load_by, page_by, IsValidLoad, top_height, top_nodes};
 
 use crate::BuildFault;
 use crate::crew::Crew;
@@ -61,7 +61,7 @@ fn new_tree<W: Crew<M>, M: Metric>(
     live: &Live,
 ) -> Result<NewTree, Memory>
     requires ready { W.ready crew.now }
-    requires load { IsLawfulLoad (load_by (M.space loading.now.metric) loading.now) }
+    requires load { IsValidLoad (load_by (M.space loading.now.metric) loading.now) }
     requires some { 0 < length loading.now.rows.now.points }
     requires few { length loading.now.rows.now.points ≤ 2 ^ 24 }
     requires workers { (1 ≤ loading.now.workers) × (loading.now.workers ≤ 64) }
@@ -94,9 +94,9 @@ fn new_tree<W: Crew<M>, M: Metric>(
 /// Makes the nodes of the tree of `rows` with `tags`, for a commit to an index that has no objects. Row i gets the id i. The rows
 /// alone settle the tree: any number of workers gives the same. New nodes get the pages `numbers`, in order, and then those from
 /// the file's end on. Children are numbered before their parent, in order of groups.
-/// Clauses: what is asked of the caller (`ready`, `head`, `live`, `empty`, `words`, `some`, `few`, `fits`, `tags`, `workers`, `numbers`);
-/// what the commit needs (`placement`, `many`, `apart`); the answer (`by_itself`, `left`, `loaded`); the cause of an error (`worn`,
-/// `cause`).
+/// Clauses: what is asked of the caller (`ready`, `head`, `live`, `empty`, `dimension`, `some`, `few`, `is_point`, `tags`, `workers`,
+/// `numbers`); what the commit needs (`placement`, `many`, `apart`); the answer (`by_itself`, `left`, `loaded`); the cause of an error
+/// (`worn`, `cause`).
 /// Arguments: `crew` and `workers` do the work in the space of `metric`, `head`, `live` and `numbers` are the file and its free pages, and
 /// `rows` and `tags` are the objects.
 pub fn build<W: Crew<M>, M: Metric>(
@@ -111,13 +111,13 @@ pub fn build<W: Crew<M>, M: Metric>(
     tags: &[u64],
 ) -> Result<Placed, BuildFault>
     requires ready { W.ready crew.now }
-    requires head { IsLawfulHead head.now }
-    requires live { IsLawfulLive head.now.limit (live.now.pages * 4096) live.now }
+    requires head { IsValidHead head.now }
+    requires live { IsValidLive head.now.limit (live.now.pages * 4096) live.now }
     requires empty { live.now.count ≡ 0 }
-    requires words { (M.space metric).words ≡ head.now.dim }
+    requires dimension { (M.space metric).dimension ≡ head.now.dim }
     requires some { 0 < length rows.now.points }
     requires few { length rows.now.points ≤ head.now.limit }
-    requires fits { All (λ p. IsTrue ((M.space metric).fits p)) rows.now.points }
+    requires is_point { All (λ p. IsTrue ((M.space metric).is_point p)) rows.now.points }
     requires tags { length tags.now ≡ length rows.now.points }
     requires workers { (1 ≤ workers) × (workers ≤ 64) }
     requires numbers { AreNumbers live.now.pages numbers.now }

@@ -3,7 +3,7 @@
 ghost use Rattle.std.specs.Prelude.{◌≡◌, ◌+◌, ◌-◌, ◌≤◌, ◌<◌, ◌^◌, ⊤, All, IfSome, length, IfOk};
 ghost use Rattle.tree_growth.specs.Groups.{entry};
 ghost use Rattle.bulk_load.specs.Hints.{AreHints};
-ghost use Rattle.bulk_load.specs.Sets.{load_by, IsLawfulLoad, IsGroupFor};
+ghost use Rattle.bulk_load.specs.Sets.{load_by, IsValidLoad, IsGroupFor};
 ghost use Rattle.bulk_load.specs.Apart.{AreMadeOf};
 
 use crate::placing::Placing;
@@ -47,7 +47,7 @@ pub trait Crew<M: Metric>: Scout<M> {
         groups: &[Group],
     ) -> Result<Option<Vec<Result<Made, Memory>>>, Memory>
         requires ready { Self.ready self.now }
-        requires load { IsLawfulLoad (load_by (M.space loading.now.metric) loading.now) }
+        requires load { IsValidLoad (load_by (M.space loading.now.metric) loading.now) }
         requires rows { length loading.now.rows.now.points ≤ 2 ^ 24 }
         requires workers { (1 ≤ loading.now.workers) × (loading.now.workers ≤ 64) }
         requires seed { IfSome set.now.seed (λ k. k < length loading.now.rows.now.points) }

@@ -133,7 +133,7 @@ pub fn groups<W: Scout<M>, M: Metric>(
 ) -> Result<Vec<Group>, Memory>
     requires ready { W.ready crew.now }
     requires rows { length rows.now.points < 2 ^ 32 }
-    requires points { All (λ p. IsTrue ((M.space metric).fits p)) rows.now.points }
+    requires points { All (λ p. IsTrue ((M.space metric).is_point p)) rows.now.points }
     requires places { All (λ k. k < length rows.now.points) set.now }
     requires ascends { IsStrictlyIncreasing set.now }
     requires level { (1 ≤ level) × (level ≤ 14) }

@@ -2,7 +2,7 @@
 
 ghost use Rattle.std.specs.Prelude.{◌≡◌, ℕ, ◌+◌, ◌-◌, ◌≤◌, ◌<◌, ◌^◌, ◌++◌, All, IfSome, Some, length, slice_index_or, IfOk, OnOk};
 ghost use Rattle.tree_growth.specs.Bulk.{groups_at};
-ghost use Rattle.bulk_load.specs.Sets.{load_by, page_by, IsLawfulLoad, IsSetFor, IsGroupFor};
+ghost use Rattle.bulk_load.specs.Sets.{load_by, page_by, IsValidLoad, IsSetFor, IsGroupFor};
 ghost use Rattle.bulk_load.specs.Postorder.{is_top, last_of, nodes_at};
 ghost use Rattle.bulk_load.specs.Apart.{IsMadeOf, AreMadeOf};
 
@@ -33,7 +33,7 @@ fn made_of<M: Metric>(
     set: &Set<'_>,
     group: &Group,
 ) -> Result<Made, Memory>
-    requires load { IsLawfulLoad (load_by (M.space loading.now.metric) loading.now) }
+    requires load { IsValidLoad (load_by (M.space loading.now.metric) loading.now) }
     requires rows { length loading.now.rows.now.points ≤ 2 ^ 24 }
     requires seed { IfSome set.now.seed (λ k. k < length loading.now.rows.now.points) }
     requires level { (1 ≤ set.now.level) × (set.now.level ≤ 14) }
@@ -71,7 +71,7 @@ pub fn made_by_threads<R: Threads + Sync, M: Metric>(
     set: &Set<'_>,
     groups: &[Group],
 ) -> Result<Vec<Result<Made, Memory>>, Memory>
-    requires load { IsLawfulLoad (load_by (M.space loading.now.metric) loading.now) }
+    requires load { IsValidLoad (load_by (M.space loading.now.metric) loading.now) }
     requires rows { length loading.now.rows.now.points ≤ 2 ^ 24 }
     requires workers { (1 ≤ loading.now.workers) × (loading.now.workers ≤ 64) }
     requires seed { IfSome set.now.seed (λ k. k < length loading.now.rows.now.points) }
@@ -81,7 +81,7 @@ pub fn made_by_threads<R: Threads + Sync, M: Metric>(
         (set.now.level - 1) groups.now parts.items) }
 {
     let work = |i: usize| -> Result<Made, Memory>
-        requires load { IsLawfulLoad (load_by (M.space loading.now.metric) loading.now) }
+        requires load { IsValidLoad (load_by (M.space loading.now.metric) loading.now) }
         requires rows { length loading.now.rows.now.points ≤ 2 ^ 24 }
         requires seed { IfSome set.now.seed (λ k. k < length loading.now.rows.now.points) }
         requires level { (1 ≤ set.now.level) × (set.now.level ≤ 14) }
@@ -102,7 +102,7 @@ fn made_in_turn<M: Metric>(
     set: &Set<'_>,
     groups: &[Group],
 ) -> Result<Vec<Result<Made, Memory>>, Memory>
-    requires load { IsLawfulLoad (load_by (M.space loading.now.metric) loading.now) }
+    requires load { IsValidLoad (load_by (M.space loading.now.metric) loading.now) }
     requires rows { length loading.now.rows.now.points ≤ 2 ^ 24 }
     requires seed { IfSome set.now.seed (λ k. k < length loading.now.rows.now.points) }
     requires level { (1 ≤ set.now.level) × (set.now.level ≤ 14) }
@@ -111,7 +111,7 @@ fn made_in_turn<M: Metric>(
         (set.now.level - 1) groups.now parts.items) }
 {
     let work = |i: usize| -> Result<Made, Memory>
-        requires load { IsLawfulLoad (load_by (M.space loading.now.metric) loading.now) }
+        requires load { IsValidLoad (load_by (M.space loading.now.metric) loading.now) }
         requires rows { length loading.now.rows.now.points ≤ 2 ^ 24 }
         requires seed { IfSome set.now.seed (λ k. k < length loading.now.rows.now.points) }
         requires level { (1 ≤ set.now.level) × (set.now.level ≤ 14) }
@@ -133,7 +133,7 @@ fn all_made<W: Crew<M>, M: Metric>(
     groups: &[Group],
 ) -> Result<Vec<Result<Made, Memory>>, Memory>
     requires ready { W.ready crew.now }
-    requires load { IsLawfulLoad (load_by (M.space loading.now.metric) loading.now) }
+    requires load { IsValidLoad (load_by (M.space loading.now.metric) loading.now) }
     requires rows { length loading.now.rows.now.points ≤ 2 ^ 24 }
     requires workers { (1 ≤ loading.now.workers) × (loading.now.workers ≤ 64) }
     requires seed { IfSome set.now.seed (λ k. k < length loading.now.rows.now.points) }
@@ -159,7 +159,7 @@ pub fn add_tree<W: Crew<M>, M: Metric>(
     nodes: &mut Vec<Node>,
 ) -> Result<u32, Memory>
     requires ready { W.ready crew.now }
-    requires load { IsLawfulLoad (load_by (M.space loading.now.metric) loading.now) }
+    requires load { IsValidLoad (load_by (M.space loading.now.metric) loading.now) }
     requires rows { length loading.now.rows.now.points ≤ 2 ^ 24 }
     requires workers { (1 ≤ loading.now.workers) × (loading.now.workers ≤ 64) }
     requires first { loading.now.numbering.first ≤ 2 ^ 24 }

@@ -5,7 +5,7 @@ ghost use Rattle.metric_laws.specs.Space.{bound};
 ghost use Rattle.tree_shape.specs.declared.entry.Node.TheVariants.{Leaf, Inner};
 ghost use Rattle.tree_shape.specs.Tree.{parent_distance};
 ghost use Rattle.tree_growth.specs.Bulk.{point_of, radius_of, groups_at};
-ghost use Rattle.bulk_load.specs.Sets.{load_by, page_by, IsLawfulLoad, IsSetFor};
+ghost use Rattle.bulk_load.specs.Sets.{load_by, page_by, IsValidLoad, IsSetFor};
 ghost use Rattle.bulk_load.specs.Postorder.{is_top, seed_point, leaf_entry, group_entry, last_of, nodes_at};
 
 use crate::crew::Scout;
@@ -183,7 +183,7 @@ pub fn groups_in<W: Scout<M>, M: Metric>(
     set: &Set<'_>,
 ) -> Result<Vec<Group>, Memory>
     requires ready { W.ready crew.now }
-    requires load { IsLawfulLoad (load_by (M.space loading.now.metric) loading.now) }
+    requires load { IsValidLoad (load_by (M.space loading.now.metric) loading.now) }
     requires rows { length loading.now.rows.now.points < 2 ^ 32 }
     requires workers { (1 ≤ loading.now.workers) × (loading.now.workers ≤ 64) }
     requires set { IsSetFor (load_by (M.space loading.now.metric) loading.now) (is_top set.now.seed) set.now.level set.now.places.now }
@@ -215,7 +215,7 @@ pub fn add_subtree<W: Scout<M>, M: Metric>(
     nodes: &mut Vec<Node>,
 ) -> Result<u32, Memory>
     requires ready { W.ready crew.now }
-    requires load { IsLawfulLoad (load_by (M.space loading.now.metric) loading.now) }
+    requires load { IsValidLoad (load_by (M.space loading.now.metric) loading.now) }
     requires rows { length loading.now.rows.now.points < 2 ^ 32 }
     requires workers { (1 ≤ loading.now.workers) × (loading.now.workers ≤ 64) }
     requires first { loading.now.numbering.first ≤ 2 ^ 24 }

@@ -64,7 +64,7 @@ rest_only file image is = ext_get_or 0 image file (omega (arith, is.no_shorter, 
 
 abbrev pub state_at : List ℕ → List Noted → List ℕ → ℕ → ℕ → DiskState
 state_at first past bytes faults reads = record {
-  tells = true;
+  is_known = true;
   bytes = bytes;
   clock = length past;
   images = LeftAt first past;
@@ -147,7 +147,7 @@ module _ (first : List ℕ) (past : List Noted) where
 
   pub nothing_unchanged : (bytes bytes' : List ℕ) (faults faults' reads reads' : ℕ) → bytes' ≡ bytes → IsUnchanged (state_at first past bytes faults reads) (state_at first past bytes' faults' reads')
   nothing_unchanged bytes bytes' faults faults' reads reads' same = record {
-    same_tells = refl;
+    same_known = refl;
     same_bytes = same;
     same_images = λ image. (λ left. left, λ left. left);
     time = let run = started (state_at first past bytes faults reads) (λ image. LeftAt first past (length past) image) (λ image left. left) in record {
@@ -168,7 +168,7 @@ module _ (first : List ℕ) (past : List Noted) where
   -- a call that changes nothing
   pub look_unchanged : (number : ℕ) (bytes bytes' : List ℕ) (faults faults' reads reads' : ℕ) → bytes' ≡ bytes → IsUnchanged (state_at first past bytes faults reads) (state_at first (pushed number look) bytes' faults' reads')
   look_unchanged number bytes bytes' faults faults' reads reads' same = record {
-    same_tells = refl;
+    same_known = refl;
     same_bytes = same;
     same_images = λ image. (back image, λ left. to_push first past (record { number = number; call = look }) image (left_now first past image left));
     time = weakened _ _ (λ image. LeftAt first past (length past) image ⊎ LeftAt first (pushed number look) (length (pushed number look)) image) (LeftAt first past (length past))

@@ -4,7 +4,7 @@ use Rattle.std.specs.Prelude.{◌≡◌, ◌⊎◌, ◌↔◌, ℕ, ◌+◌, ◌
 -- What a disk means: the bytes that a read gives, where it tells them; a clock, which is a number that never falls; the files that a
 -- crash at a moment up to now may leave; how often the disk failed; and how often it was read.
 pub record DiskState : Type 1 where
-  pub tells : Bool
+  pub is_known : Bool
   pub bytes : List ℕ
   pub clock : ℕ
   pub images : ℕ → List ℕ → Type 0
@@ -60,7 +60,7 @@ Follows step old new = (image : List ℕ) → MayLeave new image → (before : L
 
 -- what a read gives and the images are as before, and were the same at each moment between
 pub record IsUnchanged (old new : DiskState) : Type 0 where
-  pub same_tells : new.tells ≡ old.tells
+  pub same_known : new.is_known ≡ old.is_known
   pub same_bytes : new.bytes ≡ old.bytes
   pub same_images : (image : List ℕ) → MayLeave new image ↔ MayLeave old image
   pub time : EachImage old new (MayLeave old)

@@ -11,7 +11,7 @@ pub record FileCounts : Type 0 where
 -- the disk tells no bytes, and no image
 abbrev pub state_of : FileCounts → DiskState
 state_of disk = record {
-  tells = false;
+  is_known = false;
   bytes = [];
   clock = 0;
   images = λ moment image. ⊥;

@@ -55,7 +55,7 @@ once old mid new P opening run = record {
 -- calls that change nothing, one after another
 pub then_unchanged : (old mid new : DiskState) → IsUnchanged old mid → IsUnchanged mid new → IsUnchanged old new
 then_unchanged old mid new first second = record {
-  same_tells = second.same_tells ∙ first.same_tells;
+  same_known = second.same_known ∙ first.same_known;
   same_bytes = second.same_bytes ∙ first.same_bytes;
   same_images = λ image. (
     λ left. (first.same_images image).0 ((second.same_images image).0 left),

@@ -50,7 +50,7 @@ pub fn images_mix<D: Disk>(disk: &D)
 
 /// The file that a read gives is one that a crash may leave.
 pub fn read_may_be_left<D: Disk>(disk: &D)
-    ensures { IsTrue (D.state disk.now).tells → MayLeave (D.state disk.now) (D.state disk.now).bytes }
+    ensures { IsTrue (D.state disk.now).is_known → MayLeave (D.state disk.now) (D.state disk.now).bytes }
 {}
 
 /// A write that was done is a write that a crash might have cut short.

@@ -227,7 +227,7 @@ impl Disk for MemoryDisk {
     ghost places_mix = { places_mix };
 
     fn size(&mut self) -> Result<u64, Failed>
-        ensures size { IfOk result (λ n. IsTrue (memory_state self.old).tells → n ≡ length (memory_state self.old).bytes) }
+        ensures size { IfOk result (λ n. IsTrue (memory_state self.old).is_known → n ≡ length (memory_state self.old).bytes) }
         ensures same { IsUnchanged (memory_state self.old) (memory_state self.new) }
         ensures reads { (memory_state self.new).reads ≡ (memory_state self.old).reads }
         ensures cause { HasCause (memory_state self.old).faults (memory_state self.new).faults result }
@@ -240,7 +240,7 @@ impl Disk for MemoryDisk {
 
     fn read_at(&mut self, at: u64, buf: &mut [u8]) -> Result<(), Failed>
         requires { at + length buf.old ≤ 2 ^ 37 }
-        ensures read { OnOk result (IsTrue (memory_state self.old).tells
+        ensures read { OnOk result (IsTrue (memory_state self.old).is_known
             → (i : ℕ) → i < length buf.old → slice_index buf.new i ≡ slice_index (memory_state self.old).bytes (at + i)) }
         ensures same { IsUnchanged (memory_state self.old) (memory_state self.new) }
         ensures reads { (memory_state self.new).reads ≤ (memory_state self.old).reads + 1 }
@@ -258,15 +258,15 @@ impl Disk for MemoryDisk {
 
     /// Writes as the trait says. A write that fails changes no byte.
     /// Clauses: what is asked of the caller (the one without a name); what is left on the disk (`written`, `others`, `unwritten`); what a
-    /// crash may leave (`torn`, `time`); what stays (`tells`); the cost (`reads`); when it fails (`fails`); the cause of an error
+    /// crash may leave (`torn`, `time`); what stays (`is_known`); the cost (`reads`); when it fails (`fails`); the cause of an error
     /// (`cause`); the whole new state (`next`).
     fn write_at(&mut self, at: u64, bytes: &[u8]) -> Result<(), Failed>
         requires { at + length bytes.now ≤ 2 ^ 37 }
-        ensures written { OnOk result (IsTrue (memory_state self.old).tells
+        ensures written { OnOk result (IsTrue (memory_state self.old).is_known
             → Written at bytes.now (memory_state self.old).bytes (memory_state self.new).bytes) }
-        ensures others { IsTrue (memory_state self.old).tells
+        ensures others { IsTrue (memory_state self.old).is_known
             → Torn at (length bytes.now) (memory_state self.old).bytes (memory_state self.new).bytes }
-        ensures tells { (memory_state self.new).tells ≡ (memory_state self.old).tells }
+        ensures is_known { (memory_state self.new).is_known ≡ (memory_state self.old).is_known }
         ensures torn { Follows (Torn at (length bytes.now)) (memory_state self.old) (memory_state self.new) }
         ensures time { IsOneCall (memory_state self.old) (memory_state self.new) }
         ensures reads { (memory_state self.new).reads ≡ (memory_state self.old).reads }
@@ -280,12 +280,12 @@ impl Disk for MemoryDisk {
     }
 
     /// Syncs as the trait says. A sync that fails changes nothing.
-    /// Clauses: what a crash may leave (`durable`, `fewer`, `time`); what stays (`bytes`, `tells`); the cost (`reads`); when it fails
+    /// Clauses: what a crash may leave (`durable`, `fewer`, `time`); what stays (`bytes`, `is_known`); the cost (`reads`); when it fails
     /// (`fails`); the cause of an error (`cause`); the whole new state (`next`).
     fn sync(&mut self) -> Result<(), Failed>
         ensures durable { OnOk result (LeavesOnly (memory_state self.new) (memory_state self.old).bytes) }
         ensures bytes { (memory_state self.new).bytes ≡ (memory_state self.old).bytes }
-        ensures tells { (memory_state self.new).tells ≡ (memory_state self.old).tells }
+        ensures is_known { (memory_state self.new).is_known ≡ (memory_state self.old).is_known }
         ensures fewer { (image : List ℕ)
             → MayLeave (memory_state self.new) image → MayLeave (memory_state self.old) image }
         ensures time { IsOneCall (memory_state self.old) (memory_state self.new) }

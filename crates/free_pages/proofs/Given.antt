@@ -27,22 +27,22 @@ module _ (t : Live) (old now : Shelf) (count : ℕ) (flags : List Bool) (free : 
   free_is : free ≡ outside_pages t.pages way.opened
   free_is = is ∙ ap (λ (n : ℕ). outside_pages n way.opened) way.pages
 
-  walk_is : IsTrue old.tells → tree_walk old.read t ≡ Ok way.opened
-  walk_is tells = sym (way.walk tells) ∙ done old.read (suc t.pages - length way.opened) way.opened
+  walk_is : IsTrue old.is_known → tree_walk old.read t ≡ Ok way.opened
+  walk_is is_known = sym (way.walk is_known) ∙ done old.read (suc t.pages - length way.opened) way.opened
 
-  pub outside_tree : IsTrue old.tells → AreOutsideTree t old now free
-  outside_tree tells = record {
+  pub outside_tree : IsTrue old.is_known → AreOutsideTree t old now free
+  outside_tree is_known = record {
     tree = way.opened;
-    walk = walk_is tells;
-    whole = whole_tree old.read t way.opened (walk_is tells) (subst (λ (n : ℕ). AllByRecursion (IsWithin n) way.opened) way.pages way.flagged.within);
+    walk = walk_is is_known;
+    whole = whole_tree old.read t way.opened (walk_is is_known) (subst (λ (n : ℕ). AllByRecursion (IsWithin n) way.opened) way.pages way.flagged.within);
     outside = free_is;
     asked = way.asked;
     reads = way.reads;
   }
 
-  pub outside_sound : (s : Space) → IsTrue old.tells → IsSoundTree s (nodes_of old.read) t → free ≡ outside_pages t.pages (live_pages (nodes_of old.read) t)
-  outside_sound s tells sound =
-      let a = walk_is tells in
+  pub outside_sound : (s : Space) → IsTrue old.is_known → IsSoundTree s (nodes_of old.read) t → free ≡ outside_pages t.pages (live_pages (nodes_of old.read) t)
+  outside_sound s is_known sound =
+      let a = walk_is is_known in
       let b = sound_walk s old.read t sound in
       let same : way.opened ≡ live_pages (nodes_of old.read) t = (cc) in
       free_is ∙ ap (outside_pages t.pages) same
@@ -50,10 +50,10 @@ module _ (t : Live) (old now : Shelf) (count : ℕ) (flags : List Bool) (free : 
 pub fresh_kept : (pages spare newest : ℕ) (free : List ℕ) → AreNumbers pages free → IsKept (record { free = free; pins = []; held = []; spare = spare; newest = newest })
 fresh_kept pages spare newest free given = record { free_ascend = ascends_weaker 0 3 free (omega arith) given.ascending; held_ascend = tt; apart = tt; pinned = tt }
 
-pub passing : (old new : Shelf) (told : Result (List ℕ) PageFault) (tree : List ℕ) → told ≡ Ok tree → IsTrue old.tells → (fault : PageFault) → IsWalkFault old new told fault → IsPassing fault
-passing old new told tree is tells Disk why = tt
-passing old new told tree is tells Memory why = tt
-passing old new told tree is tells (Bad p f) why = let e = why.2 tells in absurd (cc)
-passing old new told tree is tells (Outside p) why = let e = why.1 tells in absurd (cc)
-passing old new told tree is tells (Repeats p) why = let e = why.1 tells in absurd (cc)
-passing old new told tree is tells (Level p) why = absurd why
+pub passing : (old new : Shelf) (told : Result (List ℕ) PageFault) (tree : List ℕ) → told ≡ Ok tree → IsTrue old.is_known → (fault : PageFault) → IsWalkFault old new told fault → IsPassing fault
+passing old new told tree is is_known Disk why = tt
+passing old new told tree is is_known Memory why = tt
+passing old new told tree is is_known (Bad p f) why = let e = why.2 is_known in absurd (cc)
+passing old new told tree is is_known (Outside p) why = let e = why.1 is_known in absurd (cc)
+passing old new told tree is is_known (Repeats p) why = let e = why.1 is_known in absurd (cc)
+passing old new told tree is is_known (Level p) why = absurd why

@@ -117,8 +117,8 @@ module _ {X : Type 0} (key : X → ℕ) where
       let parts = is (searchable_from_sorted nat_cmp_total key xs n (sorted xs up)) in
       let low : Lower xs i n = λ k d lt. less_is (key (get_or xs k d)) n (parts.0 k d (omega arith) lt) in
       let high : Higher xs i n = λ k d le lt. greater_is (key (get_or xs k d)) n (parts.1 k d le lt) in
-      let fits : i ≤ length xs = omega arith in
-      (none (times n (map key xs)) (missing i n xs low high), fits, λ v same. placed i v xs fits (subst (Lower xs i) (sym same) low) (subst (Higher xs i) (sym same) high))
+      let is_point : i ≤ length xs = omega arith in
+      (none (times n (map key xs)) (missing i n xs low high), is_point, λ v same. placed i v xs is_point (subst (Lower xs i) (sym same) low) (subst (Higher xs i) (sym same) high))
     where
       none : (m : ℕ) → m ≡ 0 → not (m == 0) ≡ false
       none m e = grind (arith, nat_tests)

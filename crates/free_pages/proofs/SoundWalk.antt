@@ -78,8 +78,8 @@ module _ (s : Space) (read : Read) where
       let whole : pages_at nodes (suc h) page ≡ page ∷ flat_map (λ e. pages_at nodes h e.child) es = ap (λ (xs : List InnerEntry). page ∷ flat_map (λ e. pages_at nodes h e.child) xs) below in
       let rest = flat_map (λ e. pages_at nodes h e.child) es in
       let all : AllByRecursion (λ e. Walks h e.child) es = all_weaker
-      (λ (e : InnerEntry). IsSoundEntry s above (objects_at nodes h e.child) e × IsSoundAt s nodes h (least_for s.words) (Some e.point) e.child)
-      (λ (e : InnerEntry). Walks h e.child) es (λ e both. subtree h (least_for s.words) (Some e.point) e.child both.1) sound.3 in
+      (λ (e : InnerEntry). IsSoundEntry s above (objects_at nodes h e.child) e × IsSoundAt s nodes h (least_for s.dimension) (Some e.point) e.child)
+      (λ (e : InnerEntry). Walks h e.child) es (λ e both. subtree h (least_for s.dimension) (Some e.point) e.child both.1) sound.3 in
       let once' : Once (opened ++ page ∷ rest) = subst (λ (xs : List ℕ). Once (opened ++ xs)) whole once in
       let n : most + length (page ∷ rest) ≡ suc (most + length rest) = omega arith in
       let joined : (opened ++ page ∷ []) ++ rest ≡ opened ++ page ∷ rest = append_assoc opened (page ∷ []) rest in
@@ -93,7 +93,7 @@ module _ (s : Space) (read : Read) where
 pub sound_walk : (s : Space) (read : Read) (t : Live) → IsSoundTree s (nodes_of read) t → tree_walk read t ≡ Ok (live_pages (nodes_of read) t)
 sound_walk s read t sound =
     let tree = live_pages (nodes_of read) t in
-    let fits : length tree ≤ t.pages = few t.pages tree (all_weaker (λ (p : ℕ). (3 ≤ p) × (p < t.pages)) (λ (p : ℕ). p < t.pages) tree (λ p both. both.1) sound.within) sound.once in
+    let is_point : length tree ≤ t.pages = few t.pages tree (all_weaker (λ (p : ℕ). (3 ≤ p) × (p < t.pages)) (λ (p : ℕ). p < t.pages) tree (λ p both. both.1) sound.within) sound.once in
     let n : suc t.pages ≡ (suc t.pages - length tree) + length tree = omega arith in
     ap (λ (m : ℕ). walked read m [] (t.root ∷ [])) n ∙ subtree s read t.height _ _ t.root sound.parts (suc t.pages - length tree) [] [] sound.once ∙ done (suc t.pages - length tree) tree
   where

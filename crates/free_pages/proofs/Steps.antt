@@ -116,10 +116,10 @@ way_begun s t = record {
   flagged = opened_none t.pages;
   counted = refl;
   pages = length-replicate t.pages false;
-  holds = record { dim = refl; pages = refl; tells = refl; read = refl; faults = omega arith };
+  holds = record { dim = refl; pages = refl; is_known = refl; read = refl; faults = omega arith };
   asked = omega arith;
   reads = omega arith;
-  walk = λ tells. let e : suc t.pages - 0 ≡ suc t.pages = omega arith in ap (λ (m : ℕ). walked s.read m [] (t.root ∷ [])) e;
+  walk = λ is_known. let e : suc t.pages - 0 ≡ suc t.pages = omega arith in ap (λ (m : ℕ). walked s.read m [] (t.root ∷ [])) e;
 }
 
 -- ---- it opens a page
@@ -139,17 +139,17 @@ way_more old mid now t count flags page coming node way unset limit is same aske
   holds = record {
     dim = same.dim ∙ way.holds.dim;
     pages = same.pages ∙ way.holds.pages;
-    tells = same.tells ∙ way.holds.tells;
+    is_known = same.is_known ∙ way.holds.is_known;
     read = same.read ∙ way.holds.read;
     faults = (let a = same.faults in let b = way.holds.faults in omega arith);
   };
   asked = omega (arith, long, way.asked);
   reads = omega (arith, long, way.reads);
-  walk = λ tells.
+  walk = λ is_known.
       ap (λ (m : ℕ). walked old.read m (way.opened ++ page ∷ []) (children node ++ coming)) after
       ∙ sym (opens old.read (t.pages - length way.opened) way.opened page coming node new
-      (ap (λ (r : Read). r page) (sym way.holds.read) ∙ is.told (subst IsTrue (sym way.holds.tells) tells)))
-      ∙ ap (λ (m : ℕ). walked old.read m way.opened (page ∷ coming)) (sym before) ∙ way.walk tells;
+      (ap (λ (r : Read). r page) (sym way.holds.read) ∙ is.told (subst IsTrue (sym way.holds.is_known) is_known)))
+      ∙ ap (λ (m : ℕ). walked old.read m way.opened (page ∷ coming)) (sym before) ∙ way.walk is_known;
 }
   where
     long : length (way.opened ++ page ∷ []) ≡ length way.opened + 1
@@ -182,22 +182,22 @@ module _ (old mid : Shelf) (t : Live) (count : ℕ) (flags : List Bool) (page : 
   abbrev next : Result (List ℕ) PageFault
   next = walked old.read (suc (t.pages - length way.opened)) way.opened (page ∷ coming)
 
-  told : IsTrue old.tells → next ≡ tree_walk old.read t
-  told tells = ap (λ (m : ℕ). walked old.read m way.opened (page ∷ coming)) (sym before) ∙ way.walk tells
+  told : IsTrue old.is_known → next ≡ tree_walk old.read t
+  told is_known = ap (λ (m : ℕ). walked old.read m way.opened (page ∷ coming)) (sym before) ∙ way.walk is_known
 
   pub way_repeats : (now : Shelf) → slice_index_or flags page false ≡ true → length flags ≡ mid.pages → IsWalkFault old now (tree_walk old.read t) (Repeats page)
   way_repeats now set limit =
       let some = flagged_is flags way.opened page way.flagged set in (
         within_from old.pages page way.opened (subst (λ (n : ℕ). AllByRecursion (IsWithin n) way.opened) (limit ∙ way.holds.pages) way.flagged.within) some,
-        λ tells. sym (told tells) ∙ (rw some refl),
+        λ is_known. sym (told is_known) ∙ (rw some refl),
       )
 
-  refused : (fault : PageFault) → slice_index_or flags page false ≡ false → IsTrue old.tells → (IsTrue mid.tells → mid.read page ≡ Err fault) → tree_walk old.read t ≡ Err fault
-  refused fault unset tells why =
+  refused : (fault : PageFault) → slice_index_or flags page false ≡ false → IsTrue old.is_known → (IsTrue mid.is_known → mid.read page ≡ Err fault) → tree_walk old.read t ≡ Err fault
+  refused fault unset is_known why =
       let fresh = unflagged flags way.opened page way.flagged unset in
       let new : (times page way.opened == 0) ≡ true = grind (arith, nat_tests) in
-      let is : old.read page ≡ Err fault = ap (λ (r : Read). r page) (sym way.holds.read) ∙ why (subst IsTrue (sym way.holds.tells) tells) in
-      sym (told tells) ∙ (rw (new, is) refl)
+      let is : old.read page ≡ Err fault = ap (λ (r : Read). r page) (sym way.holds.read) ∙ why (subst IsTrue (sym way.holds.is_known) is_known) in
+      sym (told is_known) ∙ (rw (new, is) refl)
 
   pub way_refused : (now : Shelf) (fault : PageFault) → slice_index_or flags page false ≡ false → HasPageCause mid now page fault → IsWalkFault old now (tree_walk old.read t) fault
   way_refused now Disk unset cause = rose old.faults mid.faults now.faults way.holds.faults cause
@@ -205,11 +205,11 @@ module _ (old mid : Shelf) (t : Live) (count : ℕ) (flags : List Bool) (page : 
   way_refused now (Bad p fault) unset cause = (
     cause.1,
     subst (λ (n : ℕ). IsWithin n p) way.holds.pages (subst (IsWithin mid.pages) (sym cause.0) cause.2),
-    λ tells. refused (Bad p fault) unset tells (λ m. cause.3 m ∙ ap (λ (q : ℕ). Err (Bad q fault)) (sym cause.0)),
+    λ is_known. refused (Bad p fault) unset is_known (λ m. cause.3 m ∙ ap (λ (q : ℕ). Err (Bad q fault)) (sym cause.0)),
   )
   way_refused now (Outside p) unset cause = (
     subst (λ (n : ℕ). is_within n p ≡ false) way.holds.pages (subst (λ (q : ℕ). is_within mid.pages q ≡ false) (sym cause.0) cause.1),
-    λ tells. refused (Outside p) unset tells (λ m. cause.2 m ∙ ap (λ (q : ℕ). Err (Outside q)) (sym cause.0)),
+    λ is_known. refused (Outside p) unset is_known (λ m. cause.2 m ∙ ap (λ (q : ℕ). Err (Outside q)) (sym cause.0)),
   )
   way_refused now (Repeats p) unset cause = absurd cause
   way_refused now (Level p) unset cause = absurd cause

@@ -23,4 +23,4 @@ pub record IsUnderWay (old now : Shelf) (t : Live) (count : ℕ) (flags : List B
   pub holds : HoldsSame old now
   pub asked : now.asked ≤ old.asked + length opened
   pub reads : now.reads ≤ old.reads + length opened
-  pub walk : IsTrue old.tells → walked old.read (suc t.pages - length opened) opened coming ≡ tree_walk old.read t
+  pub walk : IsTrue old.is_known → walked old.read (suc t.pages - length opened) opened coming ≡ tree_walk old.read t

@@ -40,7 +40,7 @@ outside_pages pages tree = filter (λ page. times page tree == 0) (range_with_le
 abbrev pub IsWalkFault : Shelf → Shelf → Result (List ℕ) PageFault → PageFault → Type 0
 IsWalkFault old new told Disk = Rose old.faults new.faults
 IsWalkFault old new told Memory = Unit {0}
-IsWalkFault old new told (Bad page fault) = (fault ≢ NodeMemory) × IsWithin old.pages page × (IsTrue old.tells → told ≡ Err (Bad page fault))
-IsWalkFault old new told (Outside page) = (is_within old.pages page ≡ false) × (IsTrue old.tells → told ≡ Err (Outside page))
-IsWalkFault old new told (Repeats page) = IsWithin old.pages page × (IsTrue old.tells → told ≡ Err (Repeats page))
+IsWalkFault old new told (Bad page fault) = (fault ≢ NodeMemory) × IsWithin old.pages page × (IsTrue old.is_known → told ≡ Err (Bad page fault))
+IsWalkFault old new told (Outside page) = (is_within old.pages page ≡ false) × (IsTrue old.is_known → told ≡ Err (Outside page))
+IsWalkFault old new told (Repeats page) = IsWithin old.pages page × (IsTrue old.is_known → told ≡ Err (Repeats page))
 IsWalkFault old new told (Level page) = ⊥

@@ -70,16 +70,16 @@ impl Free {
         ensures same { HoldsSame (P.shelf pages.old) (P.shelf pages.new) }
         ensures keeps { P.keeps pages.old pages.new }
         ensures no_fault { OnOk result ((P.shelf pages.new).faults ≡ (P.shelf pages.old).faults) }
-        ensures outside { IfOk result (λ f. IsTrue (P.shelf pages.old).tells →
+        ensures outside { IfOk result (λ f. IsTrue (P.shelf pages.old).is_known →
             AreOutsideTree live.now (P.shelf pages.old) (P.shelf pages.new) f.free) }
-        ensures sound { IfOk result (λ f. (s : Space) → IsTrue (P.shelf pages.old).tells →
+        ensures sound { IfOk result (λ f. (s : Space) → IsTrue (P.shelf pages.old).is_known →
             IsSoundTree s (nodes_of (P.shelf pages.old).read) live.now →
             f.free ≡ outside_pages live.now.pages (live_pages (nodes_of (P.shelf pages.old).read) live.now)) }
         ensures numbers { IfOk result (λ f. AreNumbers live.now.pages f.free) }
         ensures fresh { IfOk result IsFresh }
         ensures kept { IfOk result IsKept }
         ensures err { IfErr result (IsWalkFault (P.shelf pages.old) (P.shelf pages.new) (tree_walk (P.shelf pages.old).read live.now)) }
-        ensures passing { IfErr result (λ fault. (s : Space) → IsTrue (P.shelf pages.old).tells →
+        ensures passing { IfErr result (λ fault. (s : Space) → IsTrue (P.shelf pages.old).is_known →
             IsSoundTree s (nodes_of (P.shelf pages.old).read) live.now → IsPassing fault) }
         ensures asked { 1 ≤ live.now.pages → (P.shelf pages.new).asked ≤ (P.shelf pages.old).asked + live.now.pages }
         ensures reads { 1 ≤ live.now.pages → (P.shelf pages.new).reads ≤ (P.shelf pages.old).reads + live.now.pages }

@@ -153,12 +153,12 @@ page_cause_kept old mid new page (Bad p fault) same cause = (
   cause.0,
   cause.1,
   subst (λ (n : ℕ). IsWithin n page) same.pages cause.2,
-  λ tells. ap (λ (read : Read). read page) (sym same.read) ∙ cause.3 (same.tells ∙ tells),
+  λ is_known. ap (λ (read : Read). read page) (sym same.read) ∙ cause.3 (same.is_known ∙ is_known),
 )
 page_cause_kept old mid new page (Outside p) same cause = (
   cause.0,
   ap (λ (n : ℕ). is_within n page) (sym same.pages) ∙ cause.1,
-  λ tells. ap (λ (read : Read). read page) (sym same.read) ∙ cause.2 (same.tells ∙ tells),
+  λ is_known. ap (λ (read : Read). read page) (sym same.read) ∙ cause.2 (same.is_known ∙ is_known),
 )
 page_cause_kept old mid new page Memory same cause = tt
 page_cause_kept old mid new page (Repeats p) same cause = cause
@@ -166,13 +166,13 @@ page_cause_kept old mid new page (Level p) same cause = cause
 
 -- a cause since the walk began
 module _ (old mid new : Shelf) (same : HoldsSame old mid) (ns ms : List ℕ) (rs ss : List Record)
-    (comes : IsTrue old.tells → (page : ℕ) → ComesTo (nodes_of old.read) ms ss page → ComesTo (nodes_of old.read) ns rs page) where
-  kept : (fault : PageFault) → (page : ℕ) × HasPageCause mid new page fault × (IsTrue mid.tells → ComesTo (nodes_of mid.read) ms ss page) →
-      (page : ℕ) × HasPageCause old new page fault × (IsTrue old.tells → ComesTo (nodes_of old.read) ns rs page)
+    (comes : IsTrue old.is_known → (page : ℕ) → ComesTo (nodes_of old.read) ms ss page → ComesTo (nodes_of old.read) ns rs page) where
+  kept : (fault : PageFault) → (page : ℕ) × HasPageCause mid new page fault × (IsTrue mid.is_known → ComesTo (nodes_of mid.read) ms ss page) →
+      (page : ℕ) × HasPageCause old new page fault × (IsTrue old.is_known → ComesTo (nodes_of old.read) ns rs page)
   kept fault cause = (
     cause.0,
     page_cause_kept old mid new cause.0 fault same cause.1,
-    λ tells. comes tells cause.0 (subst (λ (read : Read). ComesTo (nodes_of read) ms ss cause.0) same.read (cause.2 (same.tells ∙ tells))),
+    λ is_known. comes is_known cause.0 (subst (λ (read : Read). ComesTo (nodes_of read) ms ss cause.0) same.read (cause.2 (same.is_known ∙ is_known))),
   )
 
   pub cause_kept : (fault : PageFault) → HasTagsCause mid new ms ss fault → HasTagsCause old new ns rs fault

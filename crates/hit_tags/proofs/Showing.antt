@@ -149,8 +149,8 @@ abbrev pub root_spot : Live → Spot
 root_spot t = record { height = t.height; least = root_least t.height; above = None; page = t.root }
 
 -- on a sound tree only a passing fault stops the walk
-pub passes : (s : Space) (old new : Shelf) (t : Live) (rs : List Record) (fault : PageFault) → IsTrue old.tells → IsSoundTree s (nodes_of old.read) t → HasTagsCause old new (t.root ∷ []) rs fault → IsPassing fault
-passes s old new t rs fault tells sound = at fault
+pub passes : (s : Space) (old new : Shelf) (t : Live) (rs : List Record) (fault : PageFault) → IsTrue old.is_known → IsSoundTree s (nodes_of old.read) t → HasTagsCause old new (t.root ∷ []) rs fault → IsPassing fault
+passes s old new t rs fault is_known sound = at fault
   where
     no_node : (page : ℕ) (f : PageFault) → ComesTo (nodes_of old.read) (t.root ∷ []) rs page → old.read page ≡ Err f → ⊥
     no_node page f comes is =
@@ -162,8 +162,8 @@ passes s old new t rs fault tells sound = at fault
     at : (f : PageFault) → HasTagsCause old new (t.root ∷ []) rs f → IsPassing f
     at Memory cause = tt
     at Disk cause = tt
-    at (Bad p f) cause = no_node cause.0 (Bad cause.0 f) (cause.2 tells) (cause.1.3 tells)
-    at (Outside p) cause = no_node cause.0 (Outside cause.0) (cause.2 tells) (cause.1.2 tells)
+    at (Bad p f) cause = no_node cause.0 (Bad cause.0 f) (cause.2 is_known) (cause.1.3 is_known)
+    at (Outside p) cause = no_node cause.0 (Outside cause.0) (cause.2 is_known) (cause.1.2 is_known)
     at (Repeats p) cause = cause.1
     at (Level p) cause = cause.1
 

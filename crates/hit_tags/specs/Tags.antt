@@ -40,4 +40,4 @@ pub record IsShown (s : Space) (nodes : Nodes) (t : Live) (found : Found) : Type
 abbrev pub HasTagsCause : Shelf → Shelf → List ℕ → List Record → PageFault → Type 0
 HasTagsCause old new needed records Memory = Unit {0}
 HasTagsCause old new needed records fault =
-    (page : ℕ) × HasPageCause old new page fault × (IsTrue old.tells → ComesTo (nodes_of old.read) needed records page)
+    (page : ℕ) × HasPageCause old new page fault × (IsTrue old.is_known → ComesTo (nodes_of old.read) needed records page)

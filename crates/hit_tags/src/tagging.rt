@@ -26,7 +26,7 @@ fn walked_tags<P: Pages>(
     found: &Found,
     are_marked: bool,
 ) -> Result<Vec<u64>, PageFault>
-    requires marked { are_marked ≡ true → IsTrue (P.shelf pages.old).tells →
+    requires marked { are_marked ≡ true → IsTrue (P.shelf pages.old).is_known →
         AreMarked (nodes_of (P.shelf pages.old).read) (live.now.root ∷ []) found.now.log.records }
     ensures same { HoldsSame (P.shelf pages.old) (P.shelf pages.new) }
     ensures keeps { P.keeps pages.old pages.new }
@@ -34,7 +34,7 @@ fn walked_tags<P: Pages>(
     ensures reads { (P.shelf pages.new).reads ≤ (P.shelf pages.old).reads + most_asked are_marked found.now.log.records }
     ensures no_fault { OnOk result ((P.shelf pages.new).faults ≡ (P.shelf pages.old).faults) }
     ensures each { IfOk result (λ tags. vec_len tags ≡ length found.now.hits) }
-    ensures met { IfOk result (λ tags. IsTrue (P.shelf pages.old).tells →
+    ensures met { IfOk result (λ tags. IsTrue (P.shelf pages.old).is_known →
         tags.items ≡ met_tags (nodes_of (P.shelf pages.old).read) live.now found.now) }
     ensures cause { IfErr result (HasTagsCause (P.shelf pages.old) (P.shelf pages.new) (live.now.root ∷ []) found.now.log.records) }
 {
@@ -68,18 +68,18 @@ pub fn tags_of<P: Pages>(
     ensures no_fault { OnOk result ((P.shelf pages.new).faults ≡ (P.shelf pages.old).faults) }
 
     ensures each { IfOk result (λ tags. vec_len tags ≡ length found.now.hits) }
-    ensures met { IfOk result (λ tags. IsTrue (P.shelf pages.old).tells →
+    ensures met { IfOk result (λ tags. IsTrue (P.shelf pages.old).is_known →
         tags.items ≡ met_tags (nodes_of (P.shelf pages.old).read) live.now found.now) }
     // Whatever the log says, on a sound tree no hit gets another object's tag.
-    ensures own { IfOk result (λ tags. IsTrue (P.shelf pages.old).tells →
+    ensures own { IfOk result (λ tags. IsTrue (P.shelf pages.old).is_known →
         (s : Space) → IsSoundTree s (nodes_of (P.shelf pages.old).read) live.now →
         AllZip (IsOwnTag (nodes_of (P.shelf pages.old).read) live.now) found.now.hits tags.items) }
-    ensures objects { IfOk result (λ tags. IsTrue (P.shelf pages.old).tells →
+    ensures objects { IfOk result (λ tags. IsTrue (P.shelf pages.old).is_known →
         (s : Space) → IsShown s (nodes_of (P.shelf pages.old).read) live.now found.now →
         tags.items ≡ object_tags (nodes_of (P.shelf pages.old).read) live.now found.now) }
 
     ensures cause { IfErr result (HasTagsCause (P.shelf pages.old) (P.shelf pages.new) (live.now.root ∷ []) found.now.log.records) }
-    ensures sound { IfErr result (λ fault. IsTrue (P.shelf pages.old).tells →
+    ensures sound { IfErr result (λ fault. IsTrue (P.shelf pages.old).is_known →
         (s : Space) → IsSoundTree s (nodes_of (P.shelf pages.old).read) live.now → IsPassing fault) }
 {
     walked_tags(alloc, pages, live, found, false)
@@ -95,7 +95,7 @@ pub fn marked_tags<P: Pages>(
     live: &Live,
     found: &Found,
 ) -> Result<Vec<u64>, PageFault>
-    requires marked { IsTrue (P.shelf pages.old).tells →
+    requires marked { IsTrue (P.shelf pages.old).is_known →
         AreMarked (nodes_of (P.shelf pages.old).read) (live.now.root ∷ []) found.now.log.records }
     ensures same { HoldsSame (P.shelf pages.old) (P.shelf pages.new) }
     ensures keeps { P.keeps pages.old pages.new }
@@ -106,9 +106,9 @@ pub fn marked_tags<P: Pages>(
     ensures near_reads { (P.shelf pages.new).reads ≤ (P.shelf pages.old).reads + near_records found.now.log.records }
     ensures no_fault { OnOk result ((P.shelf pages.new).faults ≡ (P.shelf pages.old).faults) }
     ensures each { IfOk result (λ tags. vec_len tags ≡ length found.now.hits) }
-    ensures met { IfOk result (λ tags. IsTrue (P.shelf pages.old).tells →
+    ensures met { IfOk result (λ tags. IsTrue (P.shelf pages.old).is_known →
         tags.items ≡ met_tags (nodes_of (P.shelf pages.old).read) live.now found.now) }
-    ensures objects { IfOk result (λ tags. IsTrue (P.shelf pages.old).tells →
+    ensures objects { IfOk result (λ tags. IsTrue (P.shelf pages.old).is_known →
         (s : Space) → IsShown s (nodes_of (P.shelf pages.old).read) live.now found.now →
         tags.items ≡ object_tags (nodes_of (P.shelf pages.old).read) live.now found.now) }
     ensures cause { IfErr result (HasTagsCause (P.shelf pages.old) (P.shelf pages.new) (live.now.root ∷ []) found.now.log.records) }

@@ -107,7 +107,7 @@ impl Walk {
         ensures asked { CountsUpTo (P.shelf pages.old).asked (P.shelf pages.new).asked 1 }
         ensures reads { (P.shelf pages.new).reads ≤ (P.shelf pages.old).reads + 1 }
         ensures no_fault { OnOk result ((P.shelf pages.new).faults ≡ (P.shelf pages.old).faults) }
-        ensures ok { IfOk result (λ on. IsTrue (P.shelf pages.old).tells →
+        ensures ok { IfOk result (λ on. IsTrue (P.shelf pages.old).is_known →
             HasFollowed (nodes_of (P.shelf pages.old).read) self.old told.now self.new on) }
         ensures cause { IfErr result (λ fault. (rs : List Record) →
             HasTagsCause (P.shelf pages.old) (P.shelf pages.new) (reverse self.old.stack.items) (told.now ∷ rs) fault) }
@@ -145,14 +145,14 @@ impl Walk {
         records: &[Record],
         are_marked: bool,
     ) -> Result<(), PageFault>
-        requires marked { are_marked ≡ true → IsTrue (P.shelf pages.old).tells →
+        requires marked { are_marked ≡ true → IsTrue (P.shelf pages.old).is_known →
             AreMarked (nodes_of (P.shelf pages.old).read) (reverse self.old.stack.items) records.now }
         ensures same { HoldsSame (P.shelf pages.old) (P.shelf pages.new) }
         ensures keeps { P.keeps pages.old pages.new }
         ensures asked { CountsUpTo (P.shelf pages.old).asked (P.shelf pages.new).asked (most_asked are_marked records.now) }
         ensures reads { (P.shelf pages.new).reads ≤ (P.shelf pages.old).reads + most_asked are_marked records.now }
         ensures no_fault { OnOk result ((P.shelf pages.new).faults ≡ (P.shelf pages.old).faults) }
-        ensures ok { OnOk result (IsTrue (P.shelf pages.old).tells →
+        ensures ok { OnOk result (IsTrue (P.shelf pages.old).is_known →
             TakesIn self.old.wanted (met (nodes_of (P.shelf pages.old).read) (reverse self.old.stack.items) records.now) self.new.wanted) }
         ensures cause { IfErr result (HasTagsCause (P.shelf pages.old) (P.shelf pages.new) (reverse self.old.stack.items) records.now) }
     {

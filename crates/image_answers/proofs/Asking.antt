@@ -120,10 +120,10 @@ whole_if_ok s live image c wanted (Err e) given is = tt
 
 module _ (s : Space) (live : Live) (image : List ℕ) (c : Command) (asked : Query) (answers : answered_query s c ≡ Some asked) where
   abbrev nodes : Nodes
-  nodes = nodes_in s.words live image
+  nodes = nodes_in s.dimension live image
 
   abbrev held : Held
-  held = held_in s.words live image
+  held = held_in s.dimension live image
 
   abbrev Sound : Type 0
   Sound = IsSoundTree s nodes live
@@ -134,7 +134,7 @@ module _ (s : Space) (live : Live) (image : List ℕ) (c : Command) (asked : Que
   no_damage found mid new n fault follows is quiet other cause =
       at fault other (subst (λ (x : Shelf). HasTagsCause x new (live.root ∷ []) found.log.records fault) is cause)
     where
-      none : (p : ℕ) (f : PageFault) → ComesTo nodes (live.root ∷ []) found.log.records p → reading s.words live.pages image p ≡ Err f → ⊥
+      none : (p : ℕ) (f : PageFault) → ComesTo nodes (live.root ∷ []) found.log.records p → reading s.dimension live.pages image p ≡ Err f → ⊥
       none p f comes told =
           let there = follows_to_node s nodes live asked found.log follows p comes in
           let some : nodes p ≡ Some there.0 = there.1 in
@@ -151,8 +151,8 @@ module _ (s : Space) (live : Live) (image : List ℕ) (c : Command) (asked : Que
 
   -- the answer
   module _ (found : Found) (mid new : Shelf) (n : ℕ) (is : mid ≡ pages_asked s live image n) (quiet : new.faults ≡ 0) (follows : FollowsWalk s nodes live asked found.log)
-      (named : IsLogOf live asked found) (least : Sound → IsLeastLog s nodes live asked found.log) (scanned : Sound → found.hits ≡ scan_answers s asked (points_in s.words live image))
-      (meaning : (limit : ℕ) → reply_in s held limit c ≡ hits_reply (state_of held).objects (scan_answers s asked (points_in s.words live image))) where
+      (named : IsLogOf live asked found) (least : Sound → IsLeastLog s nodes live asked found.log) (scanned : Sound → found.hits ≡ scan_answers s asked (points_in s.dimension live image))
+      (meaning : (limit : ℕ) → reply_in s held limit c ≡ hits_reply (state_of held).objects (scan_answers s asked (points_in s.dimension live image))) where
     answer_is : (tags : List ℕ) → AreTagsOf mid live found tags → IsOutcomeOf s live image c (outcome.Done (reply.Hits found.hits tags) (Some found.log))
     answer_is tags are = record {
       meant = λ sound. record {
@@ -161,7 +161,7 @@ module _ (s : Space) (live : Live) (image : List ℕ) (c : Command) (asked : Que
       };
       told = subst (λ (q : Option Query). IsTold s live image c q (outcome.Done (reply.Hits found.hits tags) (Some found.log))) (sym answers)
           (record { named = named; walk = follows; tags_are = met });
-      lawful = (are.each, named.lawful);
+      valid = (are.each, named.valid);
     }
       where
         by_image : AreTagsOf (pages_asked s live image n) live found tags
@@ -170,17 +170,17 @@ module _ (s : Space) (live : Live) (image : List ℕ) (c : Command) (asked : Que
         met : tags ≡ met_tags nodes live found
         met = by_image.met refl
 
-        own : Sound → tags ≡ tags_of (state_of held).objects (scan_answers s asked (points_in s.words live image))
+        own : Sound → tags ≡ tags_of (state_of held).objects (scan_answers s asked (points_in s.dimension live image))
         own sound =
             by_image.objects refl s (record { tree = sound; log = least_sound s nodes live asked found.log (least sound); hits_are = named.hits_are })
-            ∙ ap (λ (hs : List Hit). map (λ h. slice_index_or (tags_in s.words live image) h.id 0) hs) (scanned sound)
+            ∙ ap (λ (hs : List Hit). map (λ h. slice_index_or (tags_in s.dimension live image) h.id 0) hs) (scanned sound)
 
     -- the tags exist, even where they are not wanted
     met_are : AreTagsOf mid live found (met_tags nodes live found)
     met_are = subst (λ (x : Shelf). AreTagsOf x live found (met_tags nodes live found)) (sym is) (record {
       each = length_map (λ (h : Hit). tag_of h.id (met nodes (live.root ∷ []) found.log.records)) found.hits;
-      met = λ tells. refl;
-      objects = λ tells space shown. shown_tags space nodes live found shown;
+      met = λ is_known. refl;
+      objects = λ is_known space shown. shown_tags space nodes live found shown;
     })
 
     pub found_is : (wanted : Bool) (o : Outcome) → IsTagged wanted mid new live found o → IsGivenOf wanted s live image c o
@@ -200,7 +200,7 @@ module _ (s : Space) (live : Live) (image : List ℕ) (c : Command) (asked : Que
 
   -- ---- a search that came to a damaged page
 
-  damage_of : (a : Query) (n : ℕ) (f : PageFault) → f ≢ page.Memory → HasSearchCause s live (reading s.words live.pages image) a n f → IsDamage f
+  damage_of : (a : Query) (n : ℕ) (f : PageFault) → f ≢ page.Memory → HasSearchCause s live (reading s.dimension live.pages image) a n f → IsDamage f
   damage_of a n page.Memory other cause = absurd (other refl)
   damage_of (query.Range q r) n page.Disk other cause = let rose : Rose 0 0 = cause in absurd (omega arith)
   damage_of (query.Nearest q k) n page.Disk other cause = let rose : Rose 0 0 = cause in absurd (omega arith)
@@ -218,7 +218,7 @@ module _ (s : Space) (live : Live) (image : List ℕ) (c : Command) (asked : Que
   not_passing page.Disk damage passing = damage
   not_passing page.Memory damage passing = damage
 
-  damaged_is : (wanted : Bool) (n : ℕ) (f : PageFault) → f ≢ page.Memory → HasSearchCause s live (reading s.words live.pages image) asked n f → (Sound → IsPassing f) →
+  damaged_is : (wanted : Bool) (n : ℕ) (f : PageFault) → f ≢ page.Memory → HasSearchCause s live (reading s.dimension live.pages image) asked n f → (Sound → IsPassing f) →
       IsGivenOf wanted s live image c (outcome.Damaged f)
   damaged_is wanted n f other cause passing =
       let damage = damage_of asked n f other cause in
@@ -226,10 +226,10 @@ module _ (s : Space) (live : Live) (image : List ℕ) (c : Command) (asked : Que
       given_plain s live image c wanted (outcome.Damaged f) refl (record {
         meant = λ sound. absurd (unsound sound);
         told = subst (λ (q : Option Query). IsTold s live image c q (outcome.Damaged f)) (sym answers) (record { damage = damage; count = n; cause = cause; unsound = unsound });
-        lawful = damage;
+        valid = damage;
       })
 
-  pub fault_is : (wanted : Bool) (n : ℕ) (f : PageFault) → HasSearchCause s live (reading s.words live.pages image) asked n f → (Sound → IsPassing f) →
+  pub fault_is : (wanted : Bool) (n : ℕ) (f : PageFault) → HasSearchCause s live (reading s.dimension live.pages image) asked n f → (Sound → IsPassing f) →
       IfOk (outcome_of_fault f) (IsGivenOf wanted s live image c)
   fault_is wanted n page.Memory cause passing = tt
   fault_is wanted n page.Disk cause passing = damaged_is wanted n page.Disk (λ same. absurd (cc)) cause passing
@@ -240,53 +240,53 @@ module _ (s : Space) (live : Live) (image : List ℕ) (c : Command) (asked : Que
 
 -- ---- searches
 
-module _ (s : Space) (live : Live) (image : List ℕ) (q : List ℕ) (fits : IsTrue (s.fits q)) (old mid : Shelf) (n : ℕ) (begins : old ≡ pages_asked s live image 0) (is : mid ≡ pages_asked s live image n) where
+module _ (s : Space) (live : Live) (image : List ℕ) (q : List ℕ) (is_point : IsTrue (s.is_point q)) (old mid : Shelf) (n : ℕ) (begins : old ≡ pages_asked s live image 0) (is : mid ≡ pages_asked s live image n) where
   pub range_found : (wanted : Bool) (r used0 used1 : ℕ) (new : Shelf) (found : Found) → new.faults ≡ 0 → IsFound s live (query.Range q r) old mid used0 used1 found →
-      (IsTrue old.tells → IsSoundTree s (nodes_of old.read) live → found.hits ≡ range_hits s (points_by_id (nodes_of old.read) live) q r) →
+      (IsTrue old.is_known → IsSoundTree s (nodes_of old.read) live → found.hits ≡ range_hits s (points_by_id (nodes_of old.read) live) q r) →
       {E : Type 0} (result : Result Outcome E) → IfOk result (IsTagged wanted mid new live found) → IfOk result (IsGivenOf wanted s live image (command.Range r q))
   range_found wanted r used0 used1 new found quiet is_found scanned result tagged =
-      let least : IsLeastLog s (nodes_in s.words live image) live (query.Range q r) found.log =
-      subst (λ (x : Shelf). IsTrue x.tells → IsLeastLog s (nodes_of x.read) live (query.Range q r) found.log) begins is_found.least refl in
-      found_if_ok s live image (command.Range r q) (query.Range q r) (rw fits refl) found mid new n is quiet least is_found.log (λ sound. least)
-      (subst (λ (x : Shelf). IsTrue x.tells → IsSoundTree s (nodes_of x.read) live → found.hits ≡ range_hits s (points_by_id (nodes_of x.read) live) q r) begins scanned refl)
-      (λ limit. rw fits refl) wanted result tagged
+      let least : IsLeastLog s (nodes_in s.dimension live image) live (query.Range q r) found.log =
+      subst (λ (x : Shelf). IsTrue x.is_known → IsLeastLog s (nodes_of x.read) live (query.Range q r) found.log) begins is_found.least refl in
+      found_if_ok s live image (command.Range r q) (query.Range q r) (rw is_point refl) found mid new n is quiet least is_found.log (λ sound. least)
+      (subst (λ (x : Shelf). IsTrue x.is_known → IsSoundTree s (nodes_of x.read) live → found.hits ≡ range_hits s (points_by_id (nodes_of x.read) live) q r) begins scanned refl)
+      (λ limit. rw is_point refl) wanted result tagged
 
-  pub nearest_found : (wanted : Bool) (k : ℕ) (new : Shelf) (found : Found) → new.faults ≡ 0 → IsLogOf live (query.Nearest q k) found → (IsTrue old.tells → IsFront s (nodes_of old.read) live q k found) →
-      (IsTrue old.tells → IsSoundTree s (nodes_of old.read) live → IsNearest s (nodes_of old.read) live q k old mid found) →
+  pub nearest_found : (wanted : Bool) (k : ℕ) (new : Shelf) (found : Found) → new.faults ≡ 0 → IsLogOf live (query.Nearest q k) found → (IsTrue old.is_known → IsFront s (nodes_of old.read) live q k found) →
+      (IsTrue old.is_known → IsSoundTree s (nodes_of old.read) live → IsNearest s (nodes_of old.read) live q k old mid found) →
       {E : Type 0} (result : Result Outcome E) → IfOk result (IsTagged wanted mid new live found) → IfOk result (IsGivenOf wanted s live image (command.Nearest k q))
   nearest_found wanted k new found quiet named front nearest result tagged =
-      let by_image : IsSoundTree s (nodes_in s.words live image) live → IsNearest s (nodes_in s.words live image) live q k (pages_asked s live image 0) mid found =
-      subst (λ (x : Shelf). IsTrue x.tells → IsSoundTree s (nodes_of x.read) live → IsNearest s (nodes_of x.read) live q k x mid found) begins nearest refl in
-      let walk : IsFront s (nodes_in s.words live image) live q k found = subst (λ (x : Shelf). IsTrue x.tells → IsFront s (nodes_of x.read) live q k found) begins front refl in
-      found_if_ok s live image (command.Nearest k q) (query.Nearest q k) (rw fits refl) found mid new n is quiet
+      let by_image : IsSoundTree s (nodes_in s.dimension live image) live → IsNearest s (nodes_in s.dimension live image) live q k (pages_asked s live image 0) mid found =
+      subst (λ (x : Shelf). IsTrue x.is_known → IsSoundTree s (nodes_of x.read) live → IsNearest s (nodes_of x.read) live q k x mid found) begins nearest refl in
+      let walk : IsFront s (nodes_in s.dimension live image) live q k found = subst (λ (x : Shelf). IsTrue x.is_known → IsFront s (nodes_of x.read) live q k found) begins front refl in
+      found_if_ok s live image (command.Nearest k q) (query.Nearest q k) (rw is_point refl) found mid new n is quiet
       (record { rho = walk.rho; hits = walk.hits; left = walk.left; walk = walk.walk; some = walk.some; answers_are = walk.answers_are })
-      named (λ sound. (by_image sound).least) (λ sound. (by_image sound).scanned) (λ limit. rw fits refl) wanted result tagged
+      named (λ sound. (by_image sound).least) (λ sound. (by_image sound).scanned) (λ limit. rw is_point refl) wanted result tagged
 
   -- so the tags follow from what is marked Near alone
-  pub range_marked : (r used0 used1 : ℕ) (found : Found) → IsFound s live (query.Range q r) old mid used0 used1 found → IsTrue mid.tells → AreMarked (nodes_of mid.read) (live.root ∷ []) found.log.records
-  range_marked r used0 used1 found is_found tells =
-      let least : IsLeastLog s (nodes_in s.words live image) live (query.Range q r) found.log =
-      subst (λ (x : Shelf). IsTrue x.tells → IsLeastLog s (nodes_of x.read) live (query.Range q r) found.log) begins is_found.least refl in
-      subst (λ (x : Shelf). AreMarked (nodes_of x.read) (live.root ∷ []) found.log.records) (sym is) (follows_marked s (nodes_in s.words live image) live (query.Range q r) found.log least)
+  pub range_marked : (r used0 used1 : ℕ) (found : Found) → IsFound s live (query.Range q r) old mid used0 used1 found → IsTrue mid.is_known → AreMarked (nodes_of mid.read) (live.root ∷ []) found.log.records
+  range_marked r used0 used1 found is_found is_known =
+      let least : IsLeastLog s (nodes_in s.dimension live image) live (query.Range q r) found.log =
+      subst (λ (x : Shelf). IsTrue x.is_known → IsLeastLog s (nodes_of x.read) live (query.Range q r) found.log) begins is_found.least refl in
+      subst (λ (x : Shelf). AreMarked (nodes_of x.read) (live.root ∷ []) found.log.records) (sym is) (follows_marked s (nodes_in s.dimension live image) live (query.Range q r) found.log least)
 
-  pub nearest_marked : (k : ℕ) (found : Found) → (IsTrue old.tells → IsFront s (nodes_of old.read) live q k found) → IsTrue mid.tells →
+  pub nearest_marked : (k : ℕ) (found : Found) → (IsTrue old.is_known → IsFront s (nodes_of old.read) live q k found) → IsTrue mid.is_known →
       AreMarked (nodes_of mid.read) (live.root ∷ []) found.log.records
-  nearest_marked k found front tells =
-      let walk : IsFront s (nodes_in s.words live image) live q k found = subst (λ (x : Shelf). IsTrue x.tells → IsFront s (nodes_of x.read) live q k found) begins front refl in
+  nearest_marked k found front is_known =
+      let walk : IsFront s (nodes_in s.dimension live image) live q k found = subst (λ (x : Shelf). IsTrue x.is_known → IsFront s (nodes_of x.read) live q k found) begins front refl in
       subst (λ (x : Shelf). AreMarked (nodes_of x.read) (live.root ∷ []) found.log.records) (sym is)
-      (reaches_marked (search_at s q walk.rho) (nodes_in s.words live image) (root_need live.root ∷ []) found.log.records walk.hits walk.left walk.walk)
+      (reaches_marked (search_at s q walk.rho) (nodes_in s.dimension live image) (root_need live.root ∷ []) found.log.records walk.hits walk.left walk.walk)
 
-  pub range_fault : (wanted : Bool) (r : ℕ) (f : PageFault) → HasWalkCause (search_at s q (min r bound)) live old mid f → (IsTrue old.tells → IsSoundTree s (nodes_of old.read) live → IsPassing f) →
+  pub range_fault : (wanted : Bool) (r : ℕ) (f : PageFault) → HasWalkCause (search_at s q (min r bound)) live old mid f → (IsTrue old.is_known → IsSoundTree s (nodes_of old.read) live → IsPassing f) →
       IfOk (outcome_of_fault f) (IsGivenOf wanted s live image (command.Range r q))
   range_fault wanted r f cause passing =
-      fault_is s live image (command.Range r q) (query.Range q r) (rw fits refl) wanted n f
+      fault_is s live image (command.Range r q) (query.Range q r) (rw is_point refl) wanted n f
       (subst (λ (x : Shelf). HasWalkCause (search_at s q (min r bound)) live x (pages_asked s live image n) f) begins
       (subst (λ (x : Shelf). HasWalkCause (search_at s q (min r bound)) live old x f) is cause))
-      (subst (λ (x : Shelf). IsTrue x.tells → IsSoundTree s (nodes_of x.read) live → IsPassing f) begins passing refl)
+      (subst (λ (x : Shelf). IsTrue x.is_known → IsSoundTree s (nodes_of x.read) live → IsPassing f) begins passing refl)
 
-  pub nearest_fault : (wanted : Bool) (k : ℕ) (f : PageFault) → HasNearestCause live old mid f → (IsTrue old.tells → IsSoundTree s (nodes_of old.read) live → IsPassing f) →
+  pub nearest_fault : (wanted : Bool) (k : ℕ) (f : PageFault) → HasNearestCause live old mid f → (IsTrue old.is_known → IsSoundTree s (nodes_of old.read) live → IsPassing f) →
       IfOk (outcome_of_fault f) (IsGivenOf wanted s live image (command.Nearest k q))
   nearest_fault wanted k f cause passing =
-      fault_is s live image (command.Nearest k q) (query.Nearest q k) (rw fits refl) wanted n f
+      fault_is s live image (command.Nearest k q) (query.Nearest q k) (rw is_point refl) wanted n f
       (subst (λ (x : Shelf). HasNearestCause live x (pages_asked s live image n) f) begins (subst (λ (x : Shelf). HasNearestCause live old x f) is cause))
-      (subst (λ (x : Shelf). IsTrue x.tells → IsSoundTree s (nodes_of x.read) live → IsPassing f) begins passing refl)
+      (subst (λ (x : Shelf). IsTrue x.is_known → IsSoundTree s (nodes_of x.read) live → IsPassing f) begins passing refl)

@@ -24,7 +24,7 @@ use Rattle.page_store.specs.Shelf.{Shelf, IsDamage}
 use Rattle.page_store.specs.Shelves.{image_shelf}
 use Rattle.log_model.specs.declared.logs.Log.{Log}
 use Rattle.log_model.specs.declared.logs.Found.{Found}
-use Rattle.log_model.specs.Grammar.{IsLawfulLog}
+use Rattle.log_model.specs.Grammar.{IsValidLog}
 use Rattle.log_model.specs.Sound.{IsLeastLog, IsLogOf}
 use Rattle.log_model.specs.Walk.{search_at}
 use Rattle.hit_tags.specs.Tags.{HasTagsCause, IsShown, met_tags, object_tags}
@@ -64,7 +64,7 @@ pub record IsTurn (s : Space) (held : Held) (turn : Answered) : Type 0 where
 
 -- the outcome is a turn on what the image holds
 abbrev pub IsMeant : Space → Live → List ℕ → Command → Outcome → Type 0
-IsMeant s live image c (outcome.Done r log) = IsTurn s (held_in s.words live image) (record { command = c; reply = r; log = log })
+IsMeant s live image c (outcome.Done r log) = IsTurn s (held_in s.dimension live image) (record { command = c; reply = r; log = log })
 IsMeant s live image c (outcome.Damaged fault) = ⊥
 
 -- ---- what is known on any image, sound or not
@@ -77,15 +77,15 @@ FollowsWalk s nodes live (query.Nearest q k) log = IsFront s nodes live q k (rec
 -- the answer to a query: its log, the hits of the log, and the tags that the walk of the log meets for them
 pub record IsAnswer (s : Space) (live : Live) (image : List ℕ) (asked : Query) (hits : List Hit) (tags : List ℕ) (log : Log) : Type 0 where
   pub named : IsLogOf live asked (record { hits = hits; log = log })
-  pub walk : FollowsWalk s (nodes_in s.words live image) live asked log
-  pub tags_are : tags ≡ met_tags (nodes_in s.words live image) live (record { hits = hits; log = log })
+  pub walk : FollowsWalk s (nodes_in s.dimension live image) live asked log
+  pub tags_are : tags ≡ met_tags (nodes_in s.dimension live image) live (record { hits = hits; log = log })
 
 -- pages that hold `read` and were asked `asked` times; and the same for the pages of an image
 abbrev pub pages_holding : Space → Live → Read → ℕ → Shelf
-pages_holding s live read asked = record { dim = s.words; pages = live.pages; tells = true; read = read; asked = asked; reads = 0; faults = 0 }
+pages_holding s live read asked = record { dim = s.dimension; pages = live.pages; is_known = true; read = read; asked = asked; reads = 0; faults = 0 }
 
 abbrev pub pages_asked : Space → Live → List ℕ → ℕ → Shelf
-pages_asked s live image asked = image_shelf s.words live.pages image asked
+pages_asked s live image asked = image_shelf s.dimension live.pages image asked
 
 -- why a search on pages that hold `read` fails after `asked` requests
 abbrev pub HasSearchCause : Space → Live → Read → Query → ℕ → PageFault → Type 0
@@ -102,23 +102,23 @@ pub record HasDamage (s : Space) (live : Live) (read : Read) (asked : Query) (fa
 
 -- what is known of the outcome of a command, by the query that it asks, if any
 abbrev pub IsTold : Space → Live → List ℕ → Command → Option Query → Outcome → Type 0
-IsTold s live image c None (outcome.Done r log) = ((limit : ℕ) → r ≡ reply_in s (held_in s.words live image) limit c) × (log ≡ None)
+IsTold s live image c None (outcome.Done r log) = ((limit : ℕ) → r ≡ reply_in s (held_in s.dimension live image) limit c) × (log ≡ None)
 IsTold s live image c None (outcome.Damaged fault) = ⊥
 IsTold s live image c (Some asked) (outcome.Done (reply.Hits hits tags) (Some log)) = IsAnswer s live image asked hits tags log
-IsTold s live image c (Some asked) (outcome.Damaged fault) = HasDamage s live (reading s.words live.pages image) asked fault
+IsTold s live image c (Some asked) (outcome.Damaged fault) = HasDamage s live (reading s.dimension live.pages image) asked fault
 IsTold s live image c (Some asked) _ = ⊥
 
 -- ---- outcomes
 
 -- hits have a log that can be spelled, and no other reply has a log
 abbrev pub IsLogged : Reply → Option Log → Type 0
-IsLogged (reply.Hits hits tags) log = MatchOption log ⊥ IsLawfulLog
+IsLogged (reply.Hits hits tags) log = MatchOption log ⊥ IsValidLog
 IsLogged other log = log ≡ None
 
 -- an outcome that can be written: it has a log exactly where its reply is hits, and each hit has a tag
-abbrev pub IsLawful : Outcome → Type 0
-IsLawful (outcome.Done r log) = TagsAre r × IsLogged r log
-IsLawful (outcome.Damaged fault) = IsDamage fault
+abbrev pub IsValid : Outcome → Type 0
+IsValid (outcome.Done r log) = TagsAre r × IsLogged r log
+IsValid (outcome.Damaged fault) = IsDamage fault
 
 -- the same for an outcome whose tags may be missing where they are not shown
 abbrev pub CanBeShown : Bool → Outcome → Type 0
@@ -128,9 +128,9 @@ CanBeShown show (outcome.Damaged fault) = IsDamage fault
 -- The outcome of a command on an image. On a sound image it is what the command means. On any image it is the answer of its query's
 -- walk, or the damaged page that the walk meets, or the reply to a command that is no query.
 pub record IsOutcomeOf (s : Space) (live : Live) (image : List ℕ) (c : Command) (o : Outcome) : Type 0 where
-  pub meant : IsSoundTree s (nodes_in s.words live image) live → IsMeant s live image c o
+  pub meant : IsSoundTree s (nodes_in s.dimension live image) live → IsMeant s live image c o
   pub told : IsTold s live image c (answered_query s c) o
-  pub lawful : IsLawful o
+  pub valid : IsValid o
 
 -- a reply, and an outcome, without the tags of its hits
 abbrev pub without_tags : Reply → Reply
@@ -154,7 +154,7 @@ IsGivenOf tags s live image c given = (o : Outcome) × IsOutcomeOf s live image 
 
 -- the pages of an image behind a cache
 pub record ArePagesOf (s : Space) (live : Live) (image : List ℕ) (pages : Cache ImagePages) : Type 0 where
-  pub dim : pages.inner.dim ≡ s.words
+  pub dim : pages.inner.dim ≡ s.dimension
   pub count : pages.inner.pages ≡ live.pages
   pub bytes : bytes_in pages.inner.image ≡ image
 
@@ -164,8 +164,8 @@ pub record ArePagesOf (s : Space) (live : Live) (image : List ℕ) (pages : Cach
 -- objects
 pub record AreTagsOf (shelf : Shelf) (live : Live) (found : Found) (tags : List ℕ) : Type 0 where
   pub each : length tags ≡ length found.hits
-  pub met : IsTrue shelf.tells → tags ≡ met_tags (nodes_of shelf.read) live found
-  pub objects : IsTrue shelf.tells → (s : Space) → IsShown s (nodes_of shelf.read) live found → tags ≡ object_tags (nodes_of shelf.read) live found
+  pub met : IsTrue shelf.is_known → tags ≡ met_tags (nodes_of shelf.read) live found
+  pub objects : IsTrue shelf.is_known → (s : Space) → IsShown s (nodes_of shelf.read) live found → tags ≡ object_tags (nodes_of shelf.read) live found
 
 -- what was found is answered with its tags, or the walk of its log met a page without a node; where tags are not wanted, it is
 -- answered without them

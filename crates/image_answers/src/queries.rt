@@ -26,11 +26,11 @@ use tree_shape::Live;
 pub fn pages_of<'a, M: Metric>(image: Image<'a>, metric: M, live: &Live) -> ImagePages<'a>
     requires { live.now.pages ≤ 2 ^ 24 }
     ensures image { result.image ≡ image.entry }
-    ensures dim { result.dim ≡ (M.space metric).words }
+    ensures dim { result.dim ≡ (M.space metric).dimension }
     ensures pages { result.pages ≡ live.now.pages }
     ensures asked { result.asked ≡ 0 }
 {
-    ImagePages::of(image, metric.words() as u8, live.pages)
+    ImagePages::of(image, metric.dimension() as u8, live.pages)
 }
 
 /// Returns the pages of an image behind an empty cache of at most `pages` nodes.
@@ -81,7 +81,7 @@ fn tagged<P: Pages>(
     found: Found,
     tags: bool,
 ) -> Result<Outcome, Memory>
-    requires marked { IsTrue (P.shelf pages.old).tells →
+    requires marked { IsTrue (P.shelf pages.old).is_known →
         AreMarked (nodes_of (P.shelf pages.old).read) (live.now.root ∷ []) found.log.records }
     ensures same { HoldsSame (P.shelf pages.old) (P.shelf pages.new) }
     ensures keeps { P.keeps pages.old pages.new }
@@ -114,7 +114,7 @@ pub fn range_on<M: Metric>(
         (command.Range r q.now)) }
     ensures same { ArePagesOf (M.space metric) live.now (bytes_in pages.old.inner.image) pages.new }
 {
-    if !metric.fits(q.as_slice()) {
+    if !metric.is_point(q.as_slice()) {
         return Ok(Outcome::refused(Refusal::Unfit));
     }
     pages.count_anew();
@@ -144,7 +144,7 @@ pub fn nearest_on<M: Metric>(
         (command.Nearest k q.now)) }
     ensures same { ArePagesOf (M.space metric) live.now (bytes_in pages.old.inner.image) pages.new }
 {
-    if !metric.fits(q.as_slice()) {
+    if !metric.is_point(q.as_slice()) {
         return Ok(Outcome::refused(Refusal::Unfit));
     }
     pages.count_anew();

@@ -71,7 +71,7 @@ module _ (head : Head) (t : Live) (f : FreePages) (asked added : ℕ) (placed : 
     opens = opens;
     version = version;
     dim_is = refl;
-    count = placement.lawful.count;
+    count = placement.valid.count;
     images = λ image left. subst (KeepsTree head.dim t disk.bytes) (sym (only image left)) (record { opens = record { head = head; opens = opens }; tree = λ p i. refl });
     beside = new_is_beside (nodes_in head.dim t disk.bytes) t placed.next tree placed.staged stands (news tree stands.within beside);
   }

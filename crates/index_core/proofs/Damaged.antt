@@ -20,9 +20,9 @@ use Rattle.tree_growth.specs.Insertion.{Grown, One, Two, Rules, branch_ball, cho
 use Rattle.tree_growth.proofs.Published.{chosen_low}
 use Rattle.node_page.specs.declared.node.NodeFault.{NodeFault}
 use Rattle.node_page.specs.declared.node.Version.TheVariants.{Second}
-use Rattle.node_page.specs.Nodes.{IsLawfulNode, fault_in, node_in}
+use Rattle.node_page.specs.Nodes.{IsValidNode, fault_in, node_in}
 use Rattle.node_page.specs.Opening.{page_of}
-use Rattle.node_page.proofs.Published.{lawful_by_spells, spells_by_none}
+use Rattle.node_page.proofs.Published.{valid_by_spells, spells_by_none}
 use Rattle.page_store.specs.declared.pages.PageFault.{PageFault}
 use Rattle.page_store.specs.declared.pages.PageFault.TheVariants.{Disk, Bad, Outside, Memory, Repeats, Level}
 use Rattle.page_store.specs.Reached.{IsReached}
@@ -86,16 +86,16 @@ module _ (dim : ℕ) (bytes : List ℕ) (t : Live) where
 
 -- an inner node that is read has an entry
 module _ (dim pages : ℕ) (bytes : List ℕ) where
-  judged_lawful : (b : Bool) (page : ℕ) (o : Option NodeFault) (n node : Node) → (o ≡ None → IsLawfulNode dim n) → (if b then judged page o n else Err (Outside page)) ≡ Ok node → IsLawfulNode dim node
-  judged_lawful false page o n node lawful is = absurd (let e : ◌≡◌ {A = Result Node PageFault} (Err (Outside page)) (Ok node) = is in cc)
-  judged_lawful true page (Some f) n node lawful is = absurd (let e : ◌≡◌ {A = Result Node PageFault} (Err (Bad page f)) (Ok node) = is in cc)
-  judged_lawful true page None n node lawful is = let same : n ≡ node = (let e : ◌≡◌ {A = Result Node PageFault} (Ok n) (Ok node) = is in cc) in subst (IsLawfulNode dim) same (lawful refl)
+  judged_valid : (b : Bool) (page : ℕ) (o : Option NodeFault) (n node : Node) → (o ≡ None → IsValidNode dim n) → (if b then judged page o n else Err (Outside page)) ≡ Ok node → IsValidNode dim node
+  judged_valid false page o n node valid is = absurd (let e : ◌≡◌ {A = Result Node PageFault} (Err (Outside page)) (Ok node) = is in cc)
+  judged_valid true page (Some f) n node valid is = absurd (let e : ◌≡◌ {A = Result Node PageFault} (Err (Bad page f)) (Ok node) = is in cc)
+  judged_valid true page None n node valid is = let same : n ≡ node = (let e : ◌≡◌ {A = Result Node PageFault} (Ok n) (Ok node) = is in cc) in subst (IsValidNode dim) same (valid refl)
 
-  pub read_lawful : (page : ℕ) (node : Node) → reading dim pages bytes page ≡ Ok node → IsLawfulNode dim node
+  pub read_valid : (page : ℕ) (node : Node) → reading dim pages bytes page ≡ Ok node → IsValidNode dim node
   unfolding reading_in
-  read_lawful page node is =
-      judged_lawful (is_within pages page) page (fault_in Second dim (page_of bytes page)) (node_in Second dim (page_of bytes page)) node
-      (λ none. lawful_by_spells Second dim (page_of bytes page) (node_in Second dim (page_of bytes page)) (spells_by_none Second dim (page_of bytes page) none)) is
+  read_valid page node is =
+      judged_valid (is_within pages page) page (fault_in Second dim (page_of bytes page)) (node_in Second dim (page_of bytes page)) node
+      (λ none. valid_by_spells Second dim (page_of bytes page) (node_in Second dim (page_of bytes page)) (spells_by_none Second dim (page_of bytes page) none)) is
 
 -- ---- walks
 
@@ -188,7 +188,7 @@ comes_again nodes t page (coming, has, is) = (
   record { opened = has.opened; coming = coming; walk = has.walk; comes = is; again = inr (let c = has.count_is in omega arith) },
 )
 
-module _ {M : Type 0} (file : OpenFile M) (before after : DiskState) (tells : IsTrue before.tells) where
+module _ {M : Type 0} (file : OpenFile M) (before after : DiskState) (is_known : IsTrue before.is_known) where
   abbrev Is : PageFault → Type 0
   Is fault = IsDamageOf file.head.dim before.bytes file.live fault
 
@@ -202,12 +202,12 @@ module _ {M : Type 0} (file : OpenFile M) (before after : DiskState) (tells : Is
   range_damage f n Disk walk = tt
   range_damage f n Memory walk = tt
   range_damage f n (Bad page why) walk =
-      let told = walk.2 tells in let needs = told.1.2 in
+      let told = walk.2 is_known in let needs = told.1.2 in
       read_damage file.head.dim before.bytes file.live page (Bad page why) told.0 (needed_reached f (nodes file.head.dim before.bytes file.live) file.live.root told.1.0 page needs)
   range_damage f n (Outside page) walk =
-      let told = walk.1 tells in
+      let told = walk.1 is_known in
       read_damage file.head.dim before.bytes file.live page (Outside page) told.0 (needed_reached f (nodes file.head.dim before.bytes file.live) file.live.root told.1.0 page told.1.2)
-  range_damage f n (Repeats page) walk = comes_again (nodes file.head.dim before.bytes file.live) file.live page (needed_walk f (nodes file.head.dim before.bytes file.live) file.live.root file.live.pages page (walk.1 tells))
+  range_damage f n (Repeats page) walk = comes_again (nodes file.head.dim before.bytes file.live) file.live page (needed_walk f (nodes file.head.dim before.bytes file.live) file.live.root file.live.pages page (walk.1 is_known))
   range_damage f n (Level page) walk = absurd walk
 
   -- a page that a search for the nearest blames
@@ -215,12 +215,12 @@ module _ {M : Type 0} (file : OpenFile M) (before after : DiskState) (tells : Is
   nearest_damage n Disk walk = tt
   nearest_damage n Memory walk = tt
   nearest_damage n (Bad page why) walk =
-      let told = walk.2 tells in
+      let told = walk.2 is_known in
       read_damage file.head.dim before.bytes file.live page (Bad page why) told.0 (path_reached (nodes file.head.dim before.bytes file.live) file.live.root told.1.0 file.live.root page at_root told.1.1)
   nearest_damage n (Outside page) walk =
-      let told = walk.1 tells in
+      let told = walk.1 is_known in
       read_damage file.head.dim before.bytes file.live page (Outside page) told.0 (path_reached (nodes file.head.dim before.bytes file.live) file.live.root told.1.0 file.live.root page at_root told.1.1)
-  nearest_damage n (Repeats page) walk = comes_again (nodes file.head.dim before.bytes file.live) file.live page (walk.1 tells).1
+  nearest_damage n (Repeats page) walk = comes_again (nodes file.head.dim before.bytes file.live) file.live page (walk.1 is_known).1
   nearest_damage n (Level page) walk = absurd walk
 
 -- ---- the walk by a log
@@ -275,18 +275,18 @@ module _ (nodes : Nodes) (root : ℕ) where
         | inr old ↦ each q (inr old)
       ]
 
-module _ {M : Type 0} (file : OpenFile M) (before after : DiskState) (tells : IsTrue before.tells) where
+module _ {M : Type 0} (file : OpenFile M) (before after : DiskState) (is_known : IsTrue before.is_known) where
   -- a page that the walk by a log blames
-  pub tags_damage : (records : List Record) (fault : PageFault) → HasTagsCause (pages_on file before 0) (pages_on file after 0) (file.live.root ∷ []) records fault → Blamed file before after tells fault
+  pub tags_damage : (records : List Record) (fault : PageFault) → HasTagsCause (pages_on file before 0) (pages_on file after 0) (file.live.root ∷ []) records fault → Blamed file before after is_known fault
   tags_damage records Disk walk = tt
   tags_damage records Memory walk = tt
   tags_damage records (Bad page why) (at, cause, comes) =
-      read_damage file.head.dim before.bytes file.live at (Bad page why) (cause.3 tells ∙ ap (λ (q : ℕ). Err (Bad q why)) (sym cause.0)) (reached at (comes tells))
+      read_damage file.head.dim before.bytes file.live at (Bad page why) (cause.3 is_known ∙ ap (λ (q : ℕ). Err (Bad q why)) (sym cause.0)) (reached at (comes is_known))
     where
       reached : (at : ℕ) → ComesTo (nodes file.head.dim before.bytes file.live) (file.live.root ∷ []) records at → IsReached (nodes file.head.dim before.bytes file.live) file.live.root at
       reached at comes = comes_reached (nodes file.head.dim before.bytes file.live) file.live.root (file.live.root ∷ []) records at (λ p i. elim i [ inl same ↦ subst (IsReached (nodes file.head.dim before.bytes file.live) file.live.root) (sym same) at_root | inr none ↦ absurd none ]) comes
   tags_damage records (Outside page) (at, cause, comes) =
-      read_damage file.head.dim before.bytes file.live at (Outside page) (cause.2 tells ∙ ap (λ (q : ℕ). Err (Outside q)) (sym cause.0)) (reached at (comes tells))
+      read_damage file.head.dim before.bytes file.live at (Outside page) (cause.2 is_known ∙ ap (λ (q : ℕ). Err (Outside q)) (sym cause.0)) (reached at (comes is_known))
     where
       reached : (at : ℕ) → ComesTo (nodes file.head.dim before.bytes file.live) (file.live.root ∷ []) records at → IsReached (nodes file.head.dim before.bytes file.live) file.live.root at
       reached at comes = comes_reached (nodes file.head.dim before.bytes file.live) file.live.root (file.live.root ∷ []) records at (λ p i. elim i [ inl same ↦ subst (IsReached (nodes file.head.dim before.bytes file.live) file.live.root) (sym same) at_root | inr none ↦ absurd none ]) comes
@@ -392,8 +392,8 @@ module _ (dim : ℕ) (bytes : List ℕ) (t : Live) where
     where
       down : (level : ℕ) (es : List InnerEntry) → reading dim t.pages bytes page ≡ Ok (Inner level es) → Leads h (chosen_child s p es)
       down level es reads =
-          let lawful = read_lawful dim t.pages bytes page (Inner level es) reads in
-          let e = chosen_entry s p es lawful.2 in
+          let valid = read_valid dim t.pages bytes page (Inner level es) reads in
+          let e = chosen_entry s p es valid.2 in
           let holds : nodes dim bytes t page ≡ Some (Inner level es) = ap node_or_none reads in (
             suc leads.0,
             (let w = leads.1 in omega arith),
@@ -465,16 +465,16 @@ module _ (dim : ℕ) (bytes : List ℕ) (t : Live) (s : Space) (R : Rules) (o : 
 -- ---- what a call of an index refuses
 
 module _ {M : Type 0} (file : OpenFile M) (before after : DiskState) where
-  blamed : (tells : IsTrue before.tells) (fault : PageFault) → IsDamage fault → Blamed file before after tells fault → IsDamageOf file.head.dim before.bytes file.live fault
-  blamed tells (Bad page why) is damage = damage
-  blamed tells (Outside page) is damage = damage
-  blamed tells (Repeats page) is damage = damage
-  blamed tells (Level page) is damage = absurd is
-  blamed tells Disk is damage = absurd is
-  blamed tells Memory is damage = absurd is
+  blamed : (is_known : IsTrue before.is_known) (fault : PageFault) → IsDamage fault → Blamed file before after is_known fault → IsDamageOf file.head.dim before.bytes file.live fault
+  blamed is_known (Bad page why) is damage = damage
+  blamed is_known (Outside page) is damage = damage
+  blamed is_known (Repeats page) is damage = damage
+  blamed is_known (Level page) is damage = absurd is
+  blamed is_known Disk is damage = absurd is
+  blamed is_known Memory is damage = absurd is
 
-  read_blames : (walk : PageFault → Type 0) (fault : IndexFault) → HasReadCause walk fault → ((tells : IsTrue before.tells) (f : PageFault) → walk f → Blamed file before after tells f) → BlamesDamage file before fault
-  read_blames walk (fault.Damaged f) cause of = λ tells. blamed tells f cause.0 (of tells f cause.1)
+  read_blames : (walk : PageFault → Type 0) (fault : IndexFault) → HasReadCause walk fault → ((is_known : IsTrue before.is_known) (f : PageFault) → walk f → Blamed file before after is_known f) → BlamesDamage file before fault
+  read_blames walk (fault.Damaged f) cause of = λ is_known. blamed is_known f cause.0 (of is_known f cause.1)
   read_blames walk fault.Disk cause of = tt
   read_blames walk fault.Memory cause of = tt
   read_blames walk fault.Full cause of = tt
@@ -488,22 +488,22 @@ module _ {M : Type 0} (file : OpenFile M) (before after : DiskState) where
   range_blames s q r (Ok x) cause = tt
   range_blames s q r (Err why) cause =
       read_blames (HasWalkCause (search_at s q (min r bound)) file.live (pages_on file before 0) (pages_on file after (count_up 0 file.live.pages))) why cause
-      (λ tells f walk. range_damage file before after tells (search_at s q (min r bound)) (count_up 0 file.live.pages) f walk)
+      (λ is_known f walk. range_damage file before after is_known (search_at s q (min r bound)) (count_up 0 file.live.pages) f walk)
 
   pub reach_blames : {X : Type 0} (result : Result X IndexFault) → IfErr result (HasReachCause file before after) → IfErr result (BlamesDamage file before)
   reach_blames (Ok x) cause = tt
   reach_blames (Err why) cause =
       read_blames (HasNearestCause file.live (pages_on file before 0) (pages_on file after (count_up 0 file.live.pages))) why cause
-      (λ tells f walk. nearest_damage file before after tells (count_up 0 file.live.pages) f walk)
+      (λ is_known f walk. nearest_damage file before after is_known (count_up 0 file.live.pages) f walk)
 
   pub tag_blames : {X : Type 0} (found : Found) (result : Result X IndexFault) → IfErr result (HasTagCause file found before after) → IfErr result (BlamesDamage file before)
   tag_blames found (Ok x) cause = tt
   tag_blames found (Err why) cause =
       read_blames (HasTagsCause (pages_on file before 0) (pages_on file after 0) (file.live.root ∷ []) found.log.records) why cause
-      (λ tells f walk. tags_damage file before after tells found.log.records f walk)
+      (λ is_known f walk. tags_damage file before after is_known found.log.records f walk)
 
 pub list_blames : {M : Type 0} (file : OpenFile M) (before : DiskState) (faults : ℕ) (why : IndexFault) → HasListCause file before faults why → BlamesDamage file before why
-list_blames file before faults (fault.Damaged f) cause = λ tells. list_damage file.head.dim before.bytes file.live f (cause.1 tells)
+list_blames file before faults (fault.Damaged f) cause = λ is_known. list_damage file.head.dim before.bytes file.live f (cause.1 is_known)
 list_blames file before faults fault.Disk cause = tt
 list_blames file before faults fault.Memory cause = tt
 list_blames file before faults fault.Full cause = tt
@@ -513,17 +513,17 @@ list_blames file before faults fault.Worn cause = tt
 list_blames file before faults fault.Stopped cause = tt
 list_blames file before faults fault.Commit cause = tt
 
-pub path_blames : {M : Type 0} (s : Space) (file : OpenFile M) (f : FreePages) (o : Object) (before after : DiskState) (why : IndexFault) → s.words ≡ file.head.dim → HasPathCause s file f o before after why → BlamesDamage file before why
-path_blames s file f o before after (fault.Damaged g) words cause = λ tells.
-    place_damage file.head.dim before.bytes file.live s (rules_of s file) o (ap most_for words) g (cause.1 tells)
-path_blames s file f o before after fault.Disk words cause = tt
-path_blames s file f o before after fault.Memory words cause = tt
-path_blames s file f o before after fault.Full words cause = tt
-path_blames s file f o before after fault.NotEmpty words cause = tt
-path_blames s file f o before after (fault.NoRoom pages needed) words cause = tt
-path_blames s file f o before after fault.Worn words cause = tt
-path_blames s file f o before after fault.Stopped words cause = tt
-path_blames s file f o before after fault.Commit words cause = tt
+pub path_blames : {M : Type 0} (s : Space) (file : OpenFile M) (f : FreePages) (o : Object) (before after : DiskState) (why : IndexFault) → s.dimension ≡ file.head.dim → HasPathCause s file f o before after why → BlamesDamage file before why
+path_blames s file f o before after (fault.Damaged g) dimension cause = λ is_known.
+    place_damage file.head.dim before.bytes file.live s (rules_of s file) o (ap most_for dimension) g (cause.1 is_known)
+path_blames s file f o before after fault.Disk dimension cause = tt
+path_blames s file f o before after fault.Memory dimension cause = tt
+path_blames s file f o before after fault.Full dimension cause = tt
+path_blames s file f o before after fault.NotEmpty dimension cause = tt
+path_blames s file f o before after (fault.NoRoom pages needed) dimension cause = tt
+path_blames s file f o before after fault.Worn dimension cause = tt
+path_blames s file f o before after fault.Stopped dimension cause = tt
+path_blames s file f o before after fault.Commit dimension cause = tt
 
 -- a refusal that blames no page
 pub blames_nothing : {M : Type 0} (file : OpenFile M) (before : DiskState) (why : IndexFault) → BlamesNoPage why → BlamesDamage file before why
@@ -551,9 +551,9 @@ result_blames_nothing file before (Err why) none = blames_nothing file before wh
 
 -- what is blamed in a file that was only read is blamed in the file before
 pub moved_blames : {M : Type 0} (old new : OpenFile M) (before mid : DiskState) (why : IndexFault) → OnlyReads old new before mid → BlamesDamage new mid why → BlamesDamage old before why
-moved_blames {M} old new before mid (fault.Damaged f) reads blames = λ tells.
+moved_blames {M} old new before mid (fault.Damaged f) reads blames = λ is_known.
     subst (λ (bytes : List ℕ). IsDamageOf old.head.dim bytes old.live f) reads.same.same_bytes
-    (subst (λ (file : OpenFile M). IsDamageOf file.head.dim mid.bytes file.live f) reads.rest (blames (subst IsTrue (sym reads.same.same_tells) tells)))
+    (subst (λ (file : OpenFile M). IsDamageOf file.head.dim mid.bytes file.live f) reads.rest (blames (subst IsTrue (sym reads.same.same_known) is_known)))
 moved_blames old new before mid fault.Disk reads blames = tt
 moved_blames old new before mid fault.Memory reads blames = tt
 moved_blames old new before mid fault.Full reads blames = tt

@@ -32,7 +32,7 @@ use Rattle.free_pages.specs.Walk.{IsWalkFault, on_children, outside_pages, tree_
 use Rattle.index_core.specs.declared.faults.IndexFault.{IndexFault}
 use Rattle.index_core.specs.Causes.{BlamesNoPage, HasListCause, IsMadeList, LieOutside, read_fault}
 use Rattle.index_core.specs.Files.{OpenFile, pages_on}
-use Rattle.index_core.specs.Index.{AreSpare, IsLawfulFree}
+use Rattle.index_core.specs.Index.{AreSpare, IsValidFree}
 use Rattle.index_core.specs.Writing.{Inserts, IsMadeBy, IsPlacedFor}
 
 above : (low x : ℕ) (xs : List ℕ) → Ascends low xs → IsIn x xs → low ≤ x
@@ -44,11 +44,11 @@ none_held : (f : FreePages) (page : ℕ) → IsFresh f → IsIn page (held_pages
 none_held f page fresh i = subst (λ hs. IsIn page (held_pages hs)) fresh.held i
 
 -- a fresh list is made by the walk of the file
-pub fresh_made : {M : Type 0} (file : OpenFile M) (disk : DiskState) (f : FreePages) → (IsTrue disk.tells → LieOutside (pages_on file disk 0).read file.live f.free) → IsFresh f → IsMadeList file disk f
+pub fresh_made : {M : Type 0} (file : OpenFile M) (disk : DiskState) (f : FreePages) → (IsTrue disk.is_known → LieOutside (pages_on file disk 0).read file.live f.free) → IsFresh f → IsMadeList file disk f
 fresh_made file disk f outside fresh = record { free = outside; held = fresh.held; pins = fresh.pins }
 
-pub fresh_lawful : (t : Live) (f : FreePages) → AreNumbers t.pages f.free → IsFresh f → IsLawfulFree t f
-fresh_lawful t f numbers fresh = record {
+pub fresh_valid : (t : Live) (f : FreePages) → AreNumbers t.pages f.free → IsFresh f → IsValidFree t f
+fresh_valid t f numbers fresh = record {
   within = λ page i. elim i [
     | inl free ↦ (above 3 page f.free numbers.ascending free, all_in (λ n. n < t.pages) f.free page numbers.below free)
     | inr held ↦ absurd (none_held f page fresh held)
@@ -124,16 +124,16 @@ insertion_makes s head old t tag point placed new has = record {
 
 -- what an insertion placed, said of pages that are those of a file
 pub placed_for : (s space : Space) → s ≡ space → (old pages : Shelf) → old ≡ pages → (head : Head) (t : Live) (tag : ℕ) (point : List ℕ) (placed : Placed) →
-    (IsTrue old.tells → IsSoundTree s (nodes_of old.read) t → AreBeside (nodes_of old.read) t (pages_of placed.staged)) →
-    (IsTrue old.tells → IsSoundTree s (nodes_of old.read) t → (new : Nodes) → IsOver (nodes_of old.read) t placed.staged new →
+    (IsTrue old.is_known → IsSoundTree s (nodes_of old.read) t → AreBeside (nodes_of old.read) t (pages_of placed.staged)) →
+    (IsTrue old.is_known → IsSoundTree s (nodes_of old.read) t → (new : Nodes) → IsOver (nodes_of old.read) t placed.staged new →
     HasInserted s (rules s head.promote head.split) (nodes_of old.read) t (record { id = t.count; tag = tag; point = point }) placed new) →
-    IsTrue pages.tells → IsSoundTree space (nodes_of pages.read) t → IsPlacedFor space head (Inserts point tag) (nodes_of pages.read) t placed
+    IsTrue pages.is_known → IsSoundTree space (nodes_of pages.read) t → IsPlacedFor space head (Inserts point tag) (nodes_of pages.read) t placed
 placed_for s space same old pages is head t tag point placed apart inserted =
-    subst (λ (h : Shelf). IsTrue h.tells → IsSoundTree space (nodes_of h.read) t → IsPlacedFor space head (Inserts point tag) (nodes_of h.read) t placed) is
-    (subst (λ (m : Space). IsTrue old.tells → IsSoundTree m (nodes_of old.read) t → IsPlacedFor m head (Inserts point tag) (nodes_of old.read) t placed) same
-    (λ tells sound. record {
-      apart = apart tells sound;
-      makes = λ new over. insertion_makes s head (nodes_of old.read) t tag point placed new (inserted tells sound new over);
+    subst (λ (h : Shelf). IsTrue h.is_known → IsSoundTree space (nodes_of h.read) t → IsPlacedFor space head (Inserts point tag) (nodes_of h.read) t placed) is
+    (subst (λ (m : Space). IsTrue old.is_known → IsSoundTree m (nodes_of old.read) t → IsPlacedFor m head (Inserts point tag) (nodes_of old.read) t placed) same
+    (λ is_known sound. record {
+      apart = apart is_known sound;
+      makes = λ new over. insertion_makes s head (nodes_of old.read) t tag point placed new (inserted is_known sound new over);
     }))
 
 -- why no free list was made, by why its walk stopped

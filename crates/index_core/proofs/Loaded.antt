@@ -16,7 +16,7 @@ use Rattle.bulk_load.specs.Loaded.{HasLoaded, Stand}
 use Rattle.index_core.specs.declared.faults.IndexFault.{IndexFault}
 use Rattle.index_core.specs.declared.faults.IndexFault.TheVariants.{Full, NotEmpty, Worn, Stopped, Memory, Commit}
 use Rattle.free_pages.specs.Keeping.{FreePages}
-use Rattle.index_core.specs.Files.{StandsOn, IsLawfulFile}
+use Rattle.index_core.specs.Files.{StandsOn, IsValidFile}
 use Rattle.index_core.specs.Index.{OpenIndex, AreSpare}
 use Rattle.index_core.specs.Loading.{HasLoadingCause, load_fault}
 use Rattle.index_core.specs.Writing.{Write, Loads, IsMadeBy, IsPlacedFor, HasWritten}
@@ -28,12 +28,12 @@ no_height zero big = refl
 no_height (suc h) big = let b = big (omega arith) in let p = power_rises (suc h) 0 (suc h) (omega arith) in absurd (omega arith)
 
 -- a sound tree that has no objects is its root
-pub root_alone : (s : Space) (nodes : Nodes) (t : Live) → s.words ≤ 64 → t.count ≡ 0 → IsSoundTree s nodes t → live_pages nodes t ≡ t.root ∷ []
+pub root_alone : (s : Space) (nodes : Nodes) (t : Live) → s.dimension ≤ 64 → t.count ≡ 0 → IsSoundTree s nodes t → live_pages nodes t ≡ t.root ∷ []
 root_alone s nodes t few none sound =
     subst (λ (h : ℕ). pages_at nodes h t.root ≡ t.root ∷ []) (sym (no_height t.height (subst (λ (n : ℕ). 1 ≤ t.height → 2 * 3 ^ t.height ≤ n) none (height_is_small s nodes t few sound).0))) refl
 
 -- a load is the write of its rows
-pub load_makes : (s : Space) (head : Head) (old : Nodes) (t : Live) (rows : List (List ℕ)) (labels numbers : List ℕ) (placed : Placed) (new : Nodes) → s.words ≤ 64 → t.count ≡ 0 → IsSoundTree s old t →
+pub load_makes : (s : Space) (head : Head) (old : Nodes) (t : Live) (rows : List (List ℕ)) (labels numbers : List ℕ) (placed : Placed) (new : Nodes) → s.dimension ≤ 64 → t.count ≡ 0 → IsSoundTree s old t →
     placed.left ≡ t.root ∷ [] → HasLoaded s rows labels t numbers placed new → IsMadeBy s head (Loads rows labels) old t placed new
 load_makes s head old t rows labels numbers placed new few none sound left has = record {
   objects = record { sound = has.sound; points_are = has.points; tags_are = has.tags };
@@ -45,7 +45,7 @@ load_makes s head old t rows labels numbers placed new few none sound left has =
     crossed a b c d e k = omega arith
 
 -- what a load placed on the first free pages, said of any sound tree beside them
-pub load_placed_for : (s : Space) (head : Head) (t : Live) (f : FreePages) (n : ℕ) (rows : List (List ℕ)) (labels numbers : List ℕ) (placed : Placed) → numbers ≡ take n f.free → s.words ≤ 64 → t.count ≡ 0 →
+pub load_placed_for : (s : Space) (head : Head) (t : Live) (f : FreePages) (n : ℕ) (rows : List (List ℕ)) (labels numbers : List ℕ) (placed : Placed) → numbers ≡ take n f.free → s.dimension ≤ 64 → t.count ≡ 0 →
     placed.left ≡ t.root ∷ [] →
     ((old : Nodes) → IsSoundTree s old t → AreBeside old t numbers → AreBeside old t (pages_of placed.staged)) →
     ((new : Nodes) → Stand placed.staged new → HasLoaded s rows labels t numbers placed new) →
@@ -91,10 +91,10 @@ pub counts : (n m k : ℕ) → n ≡ m → k ≡ 0 → n ≡ k + m
 counts n m k e none = omega arith
 
 -- a refusal that touched nothing
-pub nothing_written : {M : Type 0} (s : Space) (write : Write) (old : OpenIndex M) (disk : DiskState) (fault : IndexFault) → IsLawfulFile s.words old.file → StandsOn old.file disk →
-    (IsTrue disk.tells → LeavesOnly disk disk.bytes) → (fault ≡ Commit → ⊥) → HasWritten s write old old disk disk (Err fault)
-nothing_written s write old disk fault lawful stands only other =
-    refused_written s write old old disk disk fault lawful stands only other (refused_here old disk) (λ points tags has exact. exact)
+pub nothing_written : {M : Type 0} (s : Space) (write : Write) (old : OpenIndex M) (disk : DiskState) (fault : IndexFault) → IsValidFile s.dimension old.file → StandsOn old.file disk →
+    (IsTrue disk.is_known → LeavesOnly disk disk.bytes) → (fault ≡ Commit → ⊥) → HasWritten s write old old disk disk (Err fault)
+nothing_written s write old disk fault valid stands only other =
+    refused_written s write old old disk disk fault valid stands only other (refused_here old disk) (λ points tags has exact. exact)
 
 -- a commit's refusal, as one of the load
 pub commit_cause : {M : Type 0} (s : Space) (old new : OpenIndex M) (rows : List (List ℕ)) (labels : List ℕ) (before after : DiskState) (write : Write) (result : Result ℕ IndexFault) →

@@ -3,7 +3,7 @@ use Rattle.std.specs.Prelude.{◌≡◌, ◌≢◌, ℕ, IsTrue}
 use Rattle.std.proofs.Common.{arith}
 use Rattle.node_page.specs.Heads.{is_version}
 
--- a lawful version that isn't the second is the first
+-- a valid version that isn't the second is the first
 pub is_first : (version : ℕ) → IsTrue (is_version version) → version ≢ 2 → version ≡ 1
 unfolding is_version
 is_first version is other = grind (arith)

@@ -29,8 +29,8 @@ use Rattle.free_pages.specs.Keeping.{FreePages, IsKept, with_left}
 use Rattle.free_pages.specs.Commits.{with_all_left, AreOutside, AreWithin, IsExchange, IsGuarded}
 use Rattle.free_pages.proofs.Published.{keep_outside, guard, none_in, pins_left}
 use Rattle.index_core.specs.declared.faults.IndexFault.TheVariants.{Commit}
-use Rattle.index_core.specs.Files.{OpenFile, StandsOn, IsLawfulFile, nodes_on}
-use Rattle.index_core.specs.Index.{OpenIndex, AreSpare, IsLawfulFree}
+use Rattle.index_core.specs.Files.{OpenFile, StandsOn, IsValidFile, nodes_on}
+use Rattle.index_core.specs.Index.{OpenIndex, AreSpare, IsValidFree}
 use Rattle.index_core.specs.Writing.{Write, added_by, answer_to, offered_to, points_after, tags_after, tree_after, AreLeastPages, Follows, HasObjects, HoldsObjects, LeavesEither, IsCommitted, IsExactFor, IsMadeBy, IsNumberedFor, IsPlacedFor, IsPlacedOn, KeepsPages, HasWritten}
 use Rattle.index_core.proofs.Committed.{exchange, unshared}
 use Rattle.index_core.proofs.Settled.{can_follow}
@@ -46,12 +46,12 @@ pins_all_left : (generation : ℕ) (left : List ℕ) (f : FreePages) → (with_a
 pins_all_left generation [] f = refl
 pins_all_left generation (page ∷ left) f = pins_all_left generation left (with_left f page generation) ∙ pins_left f page generation
 
-module _ {M : Type 0} (s : Space) (write : Write) (file : OpenFile M) (f : FreePages) (spare used : ℕ) (placed : Placed) (lawful : IsLawfulFile s.words file)
+module _ {M : Type 0} (s : Space) (write : Write) (file : OpenFile M) (f : FreePages) (spare used : ℕ) (placed : Placed) (valid : IsValidFile s.dimension file)
     (kept : IsKept (record f { spare = spare })) (within : AreWithin file.live.pages f) (on : IsPlacedOn file f used placed) (before after : DiskState) (stands : StandsOn file before)
-    (only : IsTrue before.tells → LeavesOnly before before.bytes) (fits : IsTrue before.tells → IsSoundTree s (nodes_on file before) file.live → IsPlacedFor s file.head write (nodes_on file before) file.live placed)
-    (moments : IsTrue before.tells → EachImage before after (IsBeforeOrAfter file.head.dim file.live placed.next placed.staged before)) where
+    (only : IsTrue before.is_known → LeavesOnly before before.bytes) (is_point : IsTrue before.is_known → IsSoundTree s (nodes_on file before) file.live → IsPlacedFor s file.head write (nodes_on file before) file.live placed)
+    (moments : IsTrue before.is_known → EachImage before after (IsBeforeOrAfter file.head.dim file.live placed.next placed.staged before)) where
   three : 3 ≤ file.live.pages
-  three = let low = lawful.live.1.low_pages in omega arith
+  three = let low = valid.live.1.low_pages in omega arith
 
   exchanged : IsExchange file.live.pages placed.next.pages used f (pages_of placed.staged) placed.left
   exchanged = subst (λ (n : ℕ). IsExchange file.live.pages placed.next.pages n f (pages_of placed.staged) placed.left) (sym on.used_is) (
@@ -59,7 +59,7 @@ module _ {M : Type 0} (s : Space) (write : Write) (file : OpenFile M) (f : FreeP
       record { given = e.given; uses = e.uses; more = e.more; fresh = e.fresh; once = e.once; left_within = e.left_within })
 
   sound_file : {points : List (List ℕ)} {tags : List ℕ} → HasObjects s file before points tags → IsSoundFile s file.head file.live before.bytes
-  sound_file has = record { opens = stands.opens has.tells; version = lawful.version; words = lawful.words_are; tree = has.sound }
+  sound_file has = record { opens = stands.opens has.is_known; version = valid.version; dimension = valid.words_are; tree = has.sound }
 
   after_is : {points : List (List ℕ)} {tags : List ℕ} → HasObjects s file before points tags → {t : Live} {nodes : Nodes} →
       IsTreeOf s nodes t (points_after write (points_by_id (nodes_on file before) file.live)) (tags_after write (tags_by_id (nodes_on file before) file.live)) →
@@ -71,13 +71,13 @@ module _ {M : Type 0} (s : Space) (write : Write) (file : OpenFile M) (f : FreeP
   pub either : (points : List (List ℕ)) (tags : List ℕ) → HasObjects s file before points tags → LeavesEither s file.head write points tags before after
   either points tags has =
       weakened before after (IsBeforeOrAfter file.head.dim file.live placed.next placed.staged before)
-      (λ image. HoldsObjects s file.head points tags image ⊎ HoldsObjects s file.head (points_after write points) (tags_after write tags) image) (moments has.tells) (λ image is. one image is)
+      (λ image. HoldsObjects s file.head points tags image ⊎ HoldsObjects s file.head (points_after write points) (tags_after write tags) image) (moments has.is_known) (λ image is. one image is)
     where
       one : (image : List ℕ) → IsBeforeOrAfter file.head.dim file.live placed.next placed.staged before image →
           HoldsObjects s file.head points tags image ⊎ HoldsObjects s file.head (points_after write points) (tags_after write tags) image
       one image is = elim (commits_keep_lists s file.head file.live placed.next placed.staged (points_after write points) (tags_after write tags) before.bytes image (sound_file has)
-          ((can_follow s.words file f spare used placed lawful kept within on).0) ((can_follow s.words file f spare used placed lawful kept within on).1)
-          (λ new over. after_is has ((fits has.tells has.sound).makes new over).objects) is.either (alone_keeps file.live placed.staged before image (only has.tells) is.others)) [
+          ((can_follow s.dimension file f spare used placed valid kept within on).0) ((can_follow s.dimension file f spare used placed valid kept within on).1)
+          (λ new over. after_is has ((is_point has.is_known has.sound).makes new over).objects) is.either (alone_keeps file.live placed.staged before image (only has.is_known) is.others)) [
             | inl old ↦ inl (record {
               live = file.live;
               is = subst (λ (ps : List (List ℕ)). IsFileOf s file.head file.live ps tags image) has.points_are
@@ -96,10 +96,10 @@ module _ {M : Type 0} (s : Space) (write : Write) (file : OpenFile M) (f : FreeP
       staged_in (n ∷ staged) zero node is e = inl (sym e ∙ (let same : n ≡ node = cc in sym (ap (λ (x : StagedNode). x.page) same)))
       staged_in (n ∷ staged) (suc k) node is e = inr (staged_in staged k node is e)
 
-  pub pages_kept : (generation : ℕ) (tree : List ℕ) → IsTrue before.tells → IsGuarded file.live.pages generation f tree → KeepsPages tree before after
-  pages_kept generation tree tells guarded =
+  pub pages_kept : (generation : ℕ) (tree : List ℕ) → IsTrue before.is_known → IsGuarded file.live.pages generation f tree → KeepsPages tree before after
+  pages_kept generation tree is_known guarded =
       weakened before after (IsBeforeOrAfter file.head.dim file.live placed.next placed.staged before) (λ image. AllByRecursion (λ page. page_of image page ≡ page_of before.bytes page) tree)
-      (moments tells) (λ image is. each image (alone_keeps file.live placed.staged before image (only tells) is.others) tree (λ page i. i))
+      (moments is_known) (λ image is. each image (alone_keeps file.live placed.staged before image (only is_known) is.others) tree (λ page i. i))
     where
       each : (image : List ℕ) → KeepsBytes file.live placed.staged before.bytes image → (pages : List ℕ) → ((page : ℕ) → IsIn page pages → IsIn page tree) →
           AllByRecursion (λ page. page_of image page ≡ page_of before.bytes page) pages
@@ -110,23 +110,23 @@ module _ {M : Type 0} (s : Space) (write : Write) (file : OpenFile M) (f : FreeP
       )
 
   -- after Ok
-  module _ (new : OpenFile M) (g : FreePages) (image : IsTrue after.tells → MayLeave after after.bytes) (told : after.tells ≡ before.tells) (did : IsCommitted file new f g used placed before after) where
+  module _ (new : OpenFile M) (g : FreePages) (image : IsTrue after.is_known → MayLeave after after.bytes) (told : after.is_known ≡ before.is_known) (did : IsCommitted file new f g used placed before after) where
     made : {points : List (List ℕ)} {tags : List ℕ} → HasObjects s file before points tags → IsMadeBy s file.head write (nodes_on file before) file.live placed (nodes_on new after)
-    made has = (fits has.tells has.sound).makes (nodes_on new after) (subst (λ (n : OpenFile M). IsOver (nodes_on file before) file.live placed.staged (nodes_on n after)) (sym did.file) (record {
+    made has = (is_point has.is_known has.sound).makes (nodes_on new after) (subst (λ (n : OpenFile M). IsOver (nodes_on file before) file.live placed.staged (nodes_on n after)) (sym did.file) (record {
       stand = written.stand;
       stay = written.stay;
     }))
       where
-        tells : IsTrue after.tells
-        tells = rw told has.tells
+        is_known : IsTrue after.is_known
+        is_known = rw told has.is_known
 
         now : IsBeforeOrAfter file.head.dim file.live placed.next placed.staged before after.bytes
-        now = (moments has.tells).each after.clock after.bytes ((moments has.tells).later) (omega arith) (image tells)
+        now = (moments has.is_known).each after.clock after.bytes ((moments has.is_known).later) (omega arith) (image is_known)
 
         written : IsWritten (nodes_on file before) (live_pages (nodes_on file before) file.live) placed.staged (nodes_in file.head.dim placed.next after.bytes)
         written = in_place_is_written file.head.dim file.live placed.next (live_pages (nodes_on file before) file.live) placed.staged before.bytes after.bytes
-            ((can_follow s.words file f spare used placed lawful kept within on).0.low_pages) has.sound.within ((can_follow s.words file f spare used placed lawful kept within on).1)
-            ((did.next has.tells).in_place) (alone_keeps file.live placed.staged before after.bytes (only has.tells) now.others)
+            ((can_follow s.dimension file f spare used placed valid kept within on).0.low_pages) has.sound.within ((can_follow s.dimension file f spare used placed valid kept within on).1)
+            ((did.next has.is_known).in_place) (alone_keeps file.live placed.staged before after.bytes (only has.is_known) now.others)
 
     next_live : (P : Live → Type 0) → P placed.next → P new.live
     next_live P p = subst (λ (n : OpenFile M). P n.live) (sym did.file) p
@@ -134,7 +134,7 @@ module _ {M : Type 0} (s : Space) (write : Write) (file : OpenFile M) (f : FreeP
     pub objects_after : (points : List (List ℕ)) (tags : List ℕ) → HasObjects s file before points tags → HasObjects s new after (points_after write points) (tags_after write tags)
     objects_after points tags has =
         let is = next_live (λ t. IsTreeOf s (nodes_on new after) t (points_after write points) (tags_after write tags)) (after_is has (made has).objects) in
-        record { tells = rw told has.tells; sound = is.sound; points_are = is.points_are; tags_are = is.tags_are }
+        record { is_known = rw told has.is_known; sound = is.sound; points_are = is.points_are; tags_are = is.tags_are }
 
     pub tree_is : (points : List (List ℕ)) (tags : List ℕ) → HasObjects s file before points tags →
         tree_of (nodes_on new after) new.live ≡ tree_after s file.head write file.live.count (tree_of (nodes_on file before) file.live)
@@ -161,13 +161,13 @@ module _ {M : Type 0} (s : Space) (write : Write) (file : OpenFile M) (f : FreeP
       where
         in_old : (page : ℕ) → IsIn page (pages_of placed.staged) → IsIn page (live_pages (nodes_on file before) file.live) → ⊥
         in_old page i o =
-            let none = beside_none (nodes_on file before) file.live (pages_of placed.staged) page (fits has.tells has.sound).apart i in
+            let none = beside_none (nodes_on file before) file.live (pages_of placed.staged) page (is_point has.is_known has.sound).apart i in
             let some = in_times page (live_pages (nodes_on file before) file.live) o in
             omega (arith, none, some)
 
         in_new : (page : ℕ) → IsIn page (pages_of placed.staged) → IsIn page (live_pages (nodes_on new after) placed.next)
         in_new page i = times_in page (live_pages (nodes_on new after) placed.next) (
-            let none = beside_none (nodes_on file before) file.live (pages_of placed.staged) page (fits has.tells has.sound).apart i in
+            let none = beside_none (nodes_on file before) file.live (pages_of placed.staged) page (is_point has.is_known has.sound).apart i in
             let some = in_times page (pages_of placed.staged) i in
             let unleft = none_in page placed.left (apart page i) in
             let balance = (made has).balance page in
@@ -187,11 +187,11 @@ module _ {M : Type 0} (s : Space) (write : Write) (file : OpenFile M) (f : FreeP
         (guard.commit file.live.pages placed.next.pages used generation placed.next.generation (record f { spare = did.spare }) tree placed.left (let e = on.placement.generation in omega arith) exchanged.more
         (record { pinned = guarded.pinned; within = guarded.within; unfree = guarded.unfree; later = guarded.later })))
 
-module _ {M : Type 0} (s : Space) (write : Write) (old : OpenIndex M) (f : FreePages) (used : ℕ) (placed : Placed) (lawful : IsLawfulFile s.words old.file)
-    (kept : IsKept (record f { spare = f.spare })) (list : IsLawfulFree old.file.live f) (on : IsPlacedOn old.file f used placed) (before after : DiskState) (stands : StandsOn old.file before)
-    (only : IsTrue before.tells → LeavesOnly before before.bytes)
-    (fits : IsTrue before.tells → IsSoundTree s (nodes_on old.file before) old.file.live → IsPlacedFor s old.file.head write (nodes_on old.file before) old.file.live placed)
-    (moments : IsTrue before.tells → EachImage before after (IsBeforeOrAfter old.file.head.dim old.file.live placed.next placed.staged before)) where
+module _ {M : Type 0} (s : Space) (write : Write) (old : OpenIndex M) (f : FreePages) (used : ℕ) (placed : Placed) (valid : IsValidFile s.dimension old.file)
+    (kept : IsKept (record f { spare = f.spare })) (list : IsValidFree old.file.live f) (on : IsPlacedOn old.file f used placed) (before after : DiskState) (stands : StandsOn old.file before)
+    (only : IsTrue before.is_known → LeavesOnly before before.bytes)
+    (is_point : IsTrue before.is_known → IsSoundTree s (nodes_on old.file before) old.file.live → IsPlacedFor s old.file.head write (nodes_on old.file before) old.file.live placed)
+    (moments : IsTrue before.is_known → EachImage before after (IsBeforeOrAfter old.file.head.dim old.file.live placed.next placed.staged before)) where
   -- the commit failed
   pub failed_written : (new : OpenIndex M) → new.stopped ≡ true → new.free ≡ None → Rose before.faults after.faults → HasWritten s write (record old { free = Some f }) new before after (Err Commit)
   failed_written new stopped none rose = record {
@@ -200,19 +200,19 @@ module _ {M : Type 0} (s : Space) (write : Write) (old : OpenIndex M) (f : FreeP
     refused = λ no. absurd (no refl);
     stops = λ is. (stopped, rose);
     forgets = λ is. none;
-    moments = either s write old.file f f.spare used placed lawful kept list.within on before after stands only fits moments;
+    moments = either s write old.file f f.spare used placed valid kept list.within on before after stands only is_point moments;
     objects = λ points tags has. tt;
     tree = λ points tags has. tt;
     least = tt;
     exact = λ points tags has exact. subst (λ (free : Option FreePages). MatchOption free (Unit {0}) (λ g. IsExactFor new.file g after)) (sym none) tt;
     guarded = λ generation tree guards. tt;
-    kept = λ generation tree tells guards. pages_kept s write old.file f f.spare used placed lawful kept list.within on before after stands only fits moments generation tree tells guards;
+    kept = λ generation tree is_known guards. pages_kept s write old.file f f.spare used placed valid kept list.within on before after stands only is_point moments generation tree is_known guards;
   }
 
   -- the commit was done
-  pub done_written : (file : OpenFile M) (g : FreePages) (answer : ℕ) → (IsTrue after.tells → MayLeave after after.bytes) → after.tells ≡ before.tells → IsCommitted old.file file f g used placed before after →
+  pub done_written : (file : OpenFile M) (g : FreePages) (answer : ℕ) → (IsTrue after.is_known → MayLeave after after.bytes) → after.is_known ≡ before.is_known → IsCommitted old.file file f g used placed before after →
       placed.next.count ≡ old.file.live.count + added_by write → answer ≡ answer_to write old.file.live.count →
-      (IsTrue before.tells → AreSpare (nodes_on old.file before) old.file.live f) → (IsTrue before.tells → Follows (nodes_on old.file before) old.file.live placed) → IsNumberedFor write old.file f placed →
+      (IsTrue before.is_known → AreSpare (nodes_on old.file before) old.file.live f) → (IsTrue before.is_known → Follows (nodes_on old.file before) old.file.live placed) → IsNumberedFor write old.file f placed →
       HasWritten s write (record old { free = Some f }) (record old { file = file; free = Some g }) before after (Ok answer)
   done_written file g answer image told did count is beside follows numbered = record {
     answer = is;
@@ -228,28 +228,28 @@ module _ {M : Type 0} (s : Space) (write : Write) (old : OpenIndex M) (f : FreeP
     refused = tt;
     stops = tt;
     forgets = tt;
-    moments = either s write old.file f f.spare used placed lawful kept list.within on before after stands only fits moments;
-    objects = objects_after s write old.file f f.spare used placed lawful kept list.within on before after stands only fits moments file g image told did;
-    tree = tree_is s write old.file f f.spare used placed lawful kept list.within on before after stands only fits moments file g image told did;
+    moments = either s write old.file f f.spare used placed valid kept list.within on before after stands only is_point moments;
+    objects = objects_after s write old.file f f.spare used placed valid kept list.within on before after stands only is_point moments file g image told did;
+    tree = tree_is s write old.file f f.spare used placed valid kept list.within on before after stands only is_point moments file g image told did;
     least = record {
       list = f;
       is = refl;
       pages = λ points tags has.
-          least_pages s write old.file f f.spare used placed lawful kept list.within on before after stands only fits moments file g image told did
-          (let spare = beside has.tells in
-          unshared old.file.head old.file.live f on.asked on.added placed kept list.within on.placement (nodes_on old.file before) spare.tree spare.stands spare.beside (follows has.tells)) numbered points tags has;
+          least_pages s write old.file f f.spare used placed valid kept list.within on before after stands only is_point moments file g image told did
+          (let spare = beside has.is_known in
+          unshared old.file.head old.file.live f on.asked on.added placed kept list.within on.placement (nodes_on old.file before) spare.tree spare.stands spare.beside (follows has.is_known)) numbered points tags has;
     };
-    exact = exact_after s write old.file f f.spare used placed lawful kept list.within on before after stands only fits moments file g image told did;
+    exact = exact_after s write old.file f f.spare used placed valid kept list.within on before after stands only is_point moments file g image told did;
     guarded = λ generation tree guards.
-        guarded_after s write old.file f f.spare used placed lawful kept list.within on before after stands only fits moments file g image told did generation tree
+        guarded_after s write old.file f f.spare used placed valid kept list.within on before after stands only is_point moments file g image told did generation tree
         (all_in (λ (pin : ℕ). pin ≤ old.file.live.generation) f.pins generation list.pins guards.pinned) guards;
-    kept = λ generation tree tells guards. pages_kept s write old.file f f.spare used placed lawful kept list.within on before after stands only fits moments generation tree tells guards;
+    kept = λ generation tree is_known guards. pages_kept s write old.file f f.spare used placed valid kept list.within on before after stands only is_point moments generation tree is_known guards;
   }
 
--- after a commit the free list is lawful
-pub next_list : {M : Type 0} (old : OpenFile M) (f : FreePages) (used : ℕ) (placed : Placed) → IsLawfulFree old.live f → IsPlacedOn old f used placed → (before after : DiskState) (file : OpenFile M) (g : FreePages) →
-    IsCommitted old file f g used placed before after → IsLawfulFree file.live g
-next_list {M} old f used placed list on before after file g did = subst (λ (n : OpenFile M). IsLawfulFree n.live g) (sym did.file) (record {
+-- after a commit the free list is valid
+pub next_list : {M : Type 0} (old : OpenFile M) (f : FreePages) (used : ℕ) (placed : Placed) → IsValidFree old.live f → IsPlacedOn old f used placed → (before after : DiskState) (file : OpenFile M) (g : FreePages) →
+    IsCommitted old file f g used placed before after → IsValidFree file.live g
+next_list {M} old f used placed list on before after file g did = subst (λ (n : OpenFile M). IsValidFree n.live g) (sym did.file) (record {
   within = did.within;
   newest = subst (λ (h : FreePages). h.newest ≤ placed.next.generation) (sym did.free)
       (newest_left placed.next.generation placed.left (record f { spare = did.spare; free = drop used f.free }) (let l = list.newest in let e = on.placement.generation in omega arith));

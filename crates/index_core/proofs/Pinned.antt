@@ -15,7 +15,7 @@ use Rattle.free_pages.specs.Keeping.{FreePages, IsFreeOrHeld, without_pin}
 use Rattle.free_pages.proofs.Published.{guard, pins_keep}
 use Rattle.index_core.specs.Causes.{IsListOf, IsMadeList}
 use Rattle.index_core.specs.Files.{OpenFile, StandsOn, OnlyReads, nodes_on}
-use Rattle.index_core.specs.Index.{OpenIndex, AreSpare, IsLawfulFree, StandsAlone}
+use Rattle.index_core.specs.Index.{OpenIndex, AreSpare, IsValidFree, StandsAlone}
 use Rattle.index_core.specs.Pinning.{AreReached, LiesBesideTree, LiesOutside, pinned, unpinned}
 use Rattle.index_core.proofs.Still.{stands_alone_still}
 use Rattle.index_core.specs.Writing.{GuardsPages, IsExactFor}
@@ -23,17 +23,17 @@ use Rattle.index_core.proofs.Written.{exact_moved}
 
 -- ---- one free list
 
-pub pinned_lawful : (t : Live) (f : FreePages) → IsLawfulFree t f → IsLawfulFree t (pinned t.generation f)
-pinned_lawful t f lawful = record {
-  within = lawful.within;
-  newest = lawful.newest;
-  pins = all_append (λ pin. pin ≤ t.generation) f.pins (t.generation ∷ []) lawful.pins (omega arith, tt);
+pub pinned_valid : (t : Live) (f : FreePages) → IsValidFree t f → IsValidFree t (pinned t.generation f)
+pinned_valid t f valid = record {
+  within = valid.within;
+  newest = valid.newest;
+  pins = all_append (λ pin. pin ≤ t.generation) f.pins (t.generation ∷ []) valid.pins (omega arith, tt);
 }
 
 -- a list that got a pin, or stays as it was because memory ran out
-pub pin_lawful : {X E : Type 0} (t : Live) (f g : FreePages) (r : Result X E) → IsLawfulFree t f → OnOk r (g ≡ pinned t.generation f) → OnErr r (g ≡ f) → IsLawfulFree t g
-pin_lawful t f g (Ok x) lawful ok err = subst (IsLawfulFree t) (sym ok) (pinned_lawful t f lawful)
-pin_lawful t f g (Err x) lawful ok err = subst (IsLawfulFree t) (sym err) lawful
+pub pin_valid : {X E : Type 0} (t : Live) (f g : FreePages) (r : Result X E) → IsValidFree t f → OnOk r (g ≡ pinned t.generation f) → OnErr r (g ≡ f) → IsValidFree t g
+pin_valid t f g (Ok x) valid ok err = subst (IsValidFree t) (sym ok) (pinned_valid t f valid)
+pin_valid t f g (Err x) valid ok err = subst (IsValidFree t) (sym err) valid
 
 without_all : (P : ℕ → Type 0) (generation : ℕ) (pins : List ℕ) → AllByRecursion P pins → AllByRecursion P (without_pin generation pins)
 without_all P generation [] all = tt
@@ -43,11 +43,11 @@ without_all P generation (pin ∷ pins) all = tested (pin == generation) (withou
     tested true rest = all.1
     tested false rest = (all.0, rest)
 
-pub unpinned_lawful : (t : Live) (f : FreePages) (generation : ℕ) → IsLawfulFree t f → IsLawfulFree t (unpinned generation f)
-unpinned_lawful t f generation lawful = record {
-  within = λ page i. lawful.within page (((pins_keep f (without_pin generation f.pins) page).0).0 i);
-  newest = lawful.newest;
-  pins = without_all (λ pin. pin ≤ t.generation) generation f.pins lawful.pins;
+pub unpinned_valid : (t : Live) (f : FreePages) (generation : ℕ) → IsValidFree t f → IsValidFree t (unpinned generation f)
+unpinned_valid t f generation valid = record {
+  within = λ page i. valid.within page (((pins_keep f (without_pin generation f.pins) page).0).0 i);
+  newest = valid.newest;
+  pins = without_all (λ pin. pin ≤ t.generation) generation f.pins valid.pins;
 }
 
 -- a pin of the live generation guards the pages that are reached
@@ -86,12 +86,12 @@ module _ {M : Type 0} (old : OpenIndex M) (file : OpenFile M) (f : FreePages) (b
 
   -- a list with the same free and held pages can be put back
   pub put_back_stands : (g : FreePages) → ((page : ℕ) → IsFreeOrHeld g page → IsFreeOrHeld f page) → StandsOn file after → StandsAlone old before →
-      (IsTrue before.tells → AreSpare (nodes_on old.file before) old.file.live f) → StandsAlone (record old { file = file; free = Some g }) after
+      (IsTrue before.is_known → AreSpare (nodes_on old.file before) old.file.live f) → StandsAlone (record old { file = file; free = Some g }) after
   put_back_stands g same stands alone beside =
       stands_alone_still (record old { free = Some g }) file before after reads stands (record {
         stands = alone.stands;
         only = alone.only;
-        spare = λ tells. let spare = beside tells in record { tree = spare.tree; stands = spare.stands; have = spare.have; beside = λ page i. spare.beside page (same page i) };
+        spare = λ is_known. let spare = beside is_known in record { tree = spare.tree; stands = spare.stands; have = spare.have; beside = λ page i. spare.beside page (same page i) };
       })
 
   pub put_back_exact : (g : FreePages) → ((page : ℕ) → IsFreeOrHeld g page ↔ IsFreeOrHeld f page) → IsExactFor old.file f before → IsExactFor file g after

@@ -20,21 +20,21 @@ use Rattle.page_store.specs.declared.staging.Placed.{Placed}
 use Rattle.page_store.specs.Placing.{live_pages}
 use Rattle.index_core.specs.Answers.{IsSoundOn}
 use Rattle.index_core.specs.Causes.{HasInsertCause, IsListOf, IsMadeList}
-use Rattle.index_core.specs.Files.{OpenFile, StandsOn, OnlyReads, IsLawfulFile, nodes_on}
+use Rattle.index_core.specs.Files.{OpenFile, StandsOn, OnlyReads, IsValidFile, nodes_on}
 use Rattle.index_core.specs.Index.{OpenIndex}
 use Rattle.index_core.specs.Lending.{same_room_by_none, same_room_by_both}
 use Rattle.index_core.specs.Writing.{Write, added_by, answer_to, offered_to, points_after, tags_after, tree_after, AreLeastPages, HasObjects, HoldsObjects, LeavesEither, IsExact, IsExactFor, IsNext, IsPlacedFor, IsRefused, GuardsPages, KeepsPages, HasWritten, StandsOnLeast}
 use Rattle.outside_io.proofs.Published.{rose_before}
 
 -- the file of an index on a disk that tells, with these objects
-pub holds : {M : Type 0} (s : Space) (file : OpenFile M) (disk : DiskState) (points : List (List ℕ)) (tags : List ℕ) → IsLawfulFile s.words file → StandsOn file disk →
+pub holds : {M : Type 0} (s : Space) (file : OpenFile M) (disk : DiskState) (points : List (List ℕ)) (tags : List ℕ) → IsValidFile s.dimension file → StandsOn file disk →
     HasObjects s file disk points tags → HoldsObjects s file.head points tags disk.bytes
-holds s file disk points tags lawful stands has = record {
+holds s file disk points tags valid stands has = record {
   live = file.live;
   is = record {
-    opens = stands.opens has.tells;
-    version = lawful.version;
-    words = lawful.words_are;
+    opens = stands.opens has.is_known;
+    version = valid.version;
+    dimension = valid.words_are;
     tree = record { sound = has.sound; points_are = has.points_are; tags_are = has.tags_are };
   };
 }
@@ -43,18 +43,18 @@ holds s file disk points tags lawful stands has = record {
 pub has_still : {M : Type 0} (s : Space) (old new : OpenFile M) (before after : DiskState) (points : List (List ℕ)) (tags : List ℕ) → OnlyReads old new before after →
     HasObjects s old before points tags → HasObjects s new after points tags
 has_still {M} s old new before after points tags reads has = subst (λ (file : OpenFile M). HasObjects s file after points tags) (sym reads.rest) (record {
-  tells = rw reads.same.same_tells has.tells;
+  is_known = rw reads.same.same_known has.is_known;
   sound = subst (λ (bytes : List ℕ). IsSoundTree s (nodes_of (reading old.head.dim old.live.pages bytes)) old.live) (sym reads.same.same_bytes) has.sound;
   points_are = subst (λ (bytes : List ℕ). points_by_id (nodes_of (reading old.head.dim old.live.pages bytes)) old.live ≡ points) (sym reads.same.same_bytes) has.points_are;
   tags_are = subst (λ (bytes : List ℕ). tags_by_id (nodes_of (reading old.head.dim old.live.pages bytes)) old.live ≡ tags) (sym reads.same.same_bytes) has.tags_are;
 })
 
 -- calls that only read leave what stood, where that was all that a crash might leave
-pub either_still : (s : Space) {M : Type 0} (file : OpenFile M) (write : Write) (points : List (List ℕ)) (tags : List ℕ) (before after : DiskState) → IsLawfulFile s.words file → StandsOn file before →
+pub either_still : (s : Space) {M : Type 0} (file : OpenFile M) (write : Write) (points : List (List ℕ)) (tags : List ℕ) (before after : DiskState) → IsValidFile s.dimension file → StandsOn file before →
     LeavesOnly before before.bytes → IsUnchanged before after → HasObjects s file before points tags → LeavesEither s file.head write points tags before after
-either_still s file write points tags before after lawful stands only same has =
+either_still s file write points tags before after valid stands only same has =
     weakened before after (MayLeave before) (λ image. HoldsObjects s file.head points tags image ⊎ HoldsObjects s file.head (points_after write points) (tags_after write tags) image) same.time
-    (λ image left. inl (subst (HoldsObjects s file.head points tags) (sym (only image left)) (holds s file before points tags lawful stands has)))
+    (λ image left. inl (subst (HoldsObjects s file.head points tags) (sym (only image left)) (holds s file before points tags valid stands has)))
 
 pub pages_still : (tree : List ℕ) (before after : DiskState) → LeavesOnly before before.bytes → IsUnchanged before after → KeepsPages tree before after
 pages_still tree before after only same =
@@ -66,22 +66,22 @@ pages_still tree before after only same =
     all_same (page ∷ tree) e = (ap (λ (bytes : List ℕ). page_of bytes page) e, all_same tree e)
 
 -- a refusal that only read
-pub refused_written : {M : Type 0} (s : Space) (write : Write) (old new : OpenIndex M) (before after : DiskState) (fault : IndexFault) → IsLawfulFile s.words old.file → StandsOn old.file before →
-    (IsTrue before.tells → LeavesOnly before before.bytes) → (fault ≡ Commit → ⊥) → IsRefused old new before after →
+pub refused_written : {M : Type 0} (s : Space) (write : Write) (old new : OpenIndex M) (before after : DiskState) (fault : IndexFault) → IsValidFile s.dimension old.file → StandsOn old.file before →
+    (IsTrue before.is_known → LeavesOnly before before.bytes) → (fault ≡ Commit → ⊥) → IsRefused old new before after →
     ((points : List (List ℕ)) (tags : List ℕ) → HasObjects s old.file before points tags → IsExact old before → IsExact new after) → HasWritten s write old new before after (Err fault)
-refused_written s write old new before after fault lawful stands only other refused exact = record {
+refused_written s write old new before after fault valid stands only other refused exact = record {
   answer = tt;
   next = tt;
   refused = λ no. refused;
   stops = λ is. absurd (other is);
   forgets = λ is. absurd (other is);
-  moments = λ points tags has. either_still s old.file write points tags before after lawful stands (only has.tells) refused.same has;
+  moments = λ points tags has. either_still s old.file write points tags before after valid stands (only has.is_known) refused.same has;
   objects = λ points tags has. tt;
   tree = λ points tags has. tt;
   least = tt;
   exact = exact;
   guarded = λ generation tree guards. tt;
-  kept = λ generation tree tells guards. pages_still tree before after (only tells) refused.same;
+  kept = λ generation tree is_known guards. pages_still tree before after (only is_known) refused.same;
 }
 
 -- the list that the index has, if it has one
@@ -139,11 +139,11 @@ module _ {M : Type 0} (s : Space) (write : Write) (old new : OpenIndex M) (file 
         (least.pages points tags (has_still s old.file file before mid points tags reads has)));
   }
 
-  pub then_written : (result : Result ℕ IndexFault) → IsLawfulFile s.words old.file → StandsOn old.file before → (IsTrue before.tells → LeavesOnly before before.bytes) →
+  pub then_written : (result : Result ℕ IndexFault) → IsValidFile s.dimension old.file → StandsOn old.file before → (IsTrue before.is_known → LeavesOnly before before.bytes) →
       OnlyReads old.file file before mid → IsListOf old before f →
       ((points : List (List ℕ)) (tags : List ℕ) → HasObjects s old.file before points tags → IsExact old before → IsExactFor file f mid) →
       HasWritten s write (record old { file = file; free = Some f }) new mid after result → HasWritten s write old new before after result
-  then_written result lawful stands only reads listed exact_list written = let list = list_is old before f listed in record {
+  then_written result valid stands only reads listed exact_list written = let list = list_is old before f listed in record {
     answer = answer result written.answer;
     next = each_ok result (next_then reads) written.next;
     refused = each_err result (λ fault h no. refused_then reads list (h no)) written.refused;
@@ -151,17 +151,17 @@ module _ {M : Type 0} (s : Space) (write : Write) (old new : OpenIndex M) (file 
     forgets = written.forgets;
     moments = λ points tags has.
         joined before mid after (λ image. HoldsObjects s old.file.head points tags image ⊎ HoldsObjects s old.file.head (points_after write points) (tags_after write tags) image)
-        (either_still s old.file write points tags before mid lawful stands (only has.tells) reads.same has)
+        (either_still s old.file write points tags before mid valid stands (only has.is_known) reads.same has)
         (subst (λ (o : OpenFile M). LeavesEither s o.head write points tags mid after) reads.rest (written.moments points tags (has_still s old.file file before mid points tags reads has)));
     objects = λ points tags has. written.objects points tags (has_still s old.file file before mid points tags reads has);
     tree = λ points tags has. each_ok result (tree_then has) (written.tree points tags (has_still s old.file file before mid points tags reads has));
     least = each_ok result (least_then reads listed) written.least;
     exact = λ points tags has exact. written.exact points tags (has_still s old.file file before mid points tags reads has) (exact_list points tags has exact);
     guarded = λ generation tree guards. written.guarded generation tree (guards_then generation tree reads list guards);
-    kept = λ generation tree tells guards.
-        joined before mid after (λ image. AllByRecursion (λ page. page_of image page ≡ page_of before.bytes page) tree) (pages_still tree before mid (only tells) reads.same)
+    kept = λ generation tree is_known guards.
+        joined before mid after (λ image. AllByRecursion (λ page. page_of image page ≡ page_of before.bytes page) tree) (pages_still tree before mid (only is_known) reads.same)
         (subst (λ (bytes : List ℕ). EachImage mid after (λ image. AllByRecursion (λ page. page_of image page ≡ page_of bytes page) tree)) reads.same.same_bytes
-        (written.kept generation tree (rw reads.same.same_tells tells) (guards_then generation tree reads list guards)));
+        (written.kept generation tree (rw reads.same.same_known is_known) (guards_then generation tree reads list guards)));
   }
     where
       answer : (r : Result ℕ IndexFault) → IfOk r (λ n. n ≡ answer_to write file.live.count) → IfOk r (λ n. n ≡ answer_to write old.file.live.count)
@@ -217,10 +217,10 @@ refused_by {M} old file f before after reads list = record {
 pub fits_moved : {M : Type 0} (space : M → Space) (write : Write) (placed : Placed) (old new : OpenFile M) (before after : DiskState) → OnlyReads old new before after →
     (IsSoundOn (space old.metric) old before → IsPlacedFor (space old.metric) old.head write (nodes_on old before) old.live placed) →
     IsSoundOn (space new.metric) new after → IsPlacedFor (space new.metric) new.head write (nodes_on new after) new.live placed
-fits_moved {M} space write placed old new before after reads fits =
+fits_moved {M} space write placed old new before after reads is_point =
     subst (λ (f : OpenFile M). IsSoundOn (space f.metric) f after → IsPlacedFor (space f.metric) f.head write (nodes_on f after) f.live placed) (sym reads.rest) (λ sound.
     subst (λ (bytes : List ℕ). IsPlacedFor (space old.metric) old.head write (nodes_of (reading old.head.dim old.live.pages bytes)) old.live placed) (sym reads.same.same_bytes)
-    (fits (rw (sym reads.same.same_tells) sound.0, subst (λ (bytes : List ℕ). IsSoundTree (space old.metric) (nodes_of (reading old.head.dim old.live.pages bytes)) old.live) reads.same.same_bytes sound.1)))
+    (is_point (rw (sym reads.same.same_known) sound.0, subst (λ (bytes : List ℕ). IsSoundTree (space old.metric) (nodes_of (reading old.head.dim old.live.pages bytes)) old.live) reads.same.same_bytes sound.1)))
 
 pub exact_moved : {M : Type 0} (f : FreePages) (old new : OpenFile M) (before after : DiskState) → OnlyReads old new before after → IsExactFor old f before → IsExactFor new f after
 exact_moved {M} f old new before after reads exact =

@@ -24,7 +24,7 @@ use Rattle.index_core.specs.Files.{OpenFile, pages_on, nodes_on}
 
 -- the disk tells its bytes, and the live tree in them is sound in the space
 abbrev pub IsSoundOn : {M : Type 0} → Space → OpenFile M → DiskState → Type 0
-IsSoundOn s file disk = IsTrue disk.tells × IsSoundTree s (nodes_on file disk) file.live
+IsSoundOn s file disk = IsTrue disk.is_known × IsSoundTree s (nodes_on file disk) file.live
 
 -- the points of the objects, in order of id
 abbrev pub points_on : {M : Type 0} → OpenFile M → DiskState → List (List ℕ)
@@ -73,7 +73,7 @@ HasDrawCause file old new = HasReadCause (HasTourCause file.live (pages_on file 
 pub record HasDrawn {M : Type 0} (s : Space) (file : OpenFile M) (old new : DiskState) (result : Result Shape IndexFault) : Type 0 where
   pub counted : IfOk result (IsCounted file.live)
   pub reads : IfOk result (λ shape. new.reads ≤ old.reads + length shape.lines)
-  pub walk : IfOk result (λ shape. IsTrue old.tells → DrawsTo (nodes_on file old) (root_named file.live.root ∷ []) shape.lines [])
+  pub walk : IfOk result (λ shape. IsTrue old.is_known → DrawsTo (nodes_on file old) (root_named file.live.root ∷ []) shape.lines [])
   pub lines : IfOk result (λ shape. IsSoundOn s file old → shape.lines ≡ tree_lines (nodes_on file old) file.live)
   pub cause : IfErr result (HasDrawCause file old new)
   pub undamaged : IsSoundOn s file old → IfErr result MayComeAnytime
@@ -88,9 +88,9 @@ HasTagCause file found old new = HasReadCause (HasTagsCause (pages_on file old 0
 pub record HasTagged {M : Type 0} (s : Space) (file : OpenFile M) (found : Found) (old new : DiskState)
     (result : Result (Vec ℕ Global) IndexFault) : Type 0 where
   pub each : IfOk result (λ tags. vec_len tags ≡ length found.hits)
-  pub met : IfOk result (λ tags. IsTrue old.tells → tags.items ≡ met_tags (nodes_on file old) file.live found)
+  pub met : IfOk result (λ tags. IsTrue old.is_known → tags.items ≡ met_tags (nodes_on file old) file.live found)
   pub own : IfOk result (λ tags. IsSoundOn s file old → AllZip (IsOwnTag (nodes_on file old) file.live) found.hits tags.items)
-  pub objects : IfOk result (λ tags. IsTrue old.tells → IsShown s (nodes_on file old) file.live found →
+  pub objects : IfOk result (λ tags. IsTrue old.is_known → IsShown s (nodes_on file old) file.live found →
       tags.items ≡ object_tags (nodes_on file old) file.live found)
   pub reads : new.reads ≤ old.reads + length found.log.records
   pub cause : IfErr result (HasTagCause file found old new)

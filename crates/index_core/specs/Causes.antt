@@ -31,13 +31,13 @@ use Rattle.index_core.specs.declared.faults.IndexFault.TheVariants.{Disk, Damage
 abbrev pub OpensAs : List ℕ → (Head → Type 0) → Type 0
 OpensAs bytes P = (head : Head) × (live : Live) × OpensTo bytes head live × P head
 
--- Why an index was not opened with a metric of `words` coordinates: the disk failed, or the fault is the first fault of the bytes; or
+-- Why an index was not opened with a metric of `dimension` coordinates: the disk failed, or the fault is the first fault of the bytes; or
 -- the bytes open to a head of version 1, or to a head whose points have another number of coordinates.
 abbrev pub HasReaderCause : ℕ → DiskState → DiskState → OpenFault → Type 0
-HasReaderCause words old new fault =
+HasReaderCause dimension old new fault =
     HasOpenCause old new fault
-    ⊎ (((fault ≡ NoHead Version) × (IsTrue old.tells → OpensAs old.bytes (λ head. head.version ≡ 1)))
-    ⊎ ((fault ≡ NoHead Space) × (IsTrue old.tells → OpensAs old.bytes (λ head. (head.version ≡ 2) × (head.dim ≢ words)))))
+    ⊎ (((fault ≡ NoHead Version) × (IsTrue old.is_known → OpensAs old.bytes (λ head. head.version ≡ 1)))
+    ⊎ ((fault ≡ NoHead Space) × (IsTrue old.is_known → OpensAs old.bytes (λ head. (head.version ≡ 2) × (head.dim ≢ dimension)))))
 
 -- maps a walk's fault to the index's
 abbrev pub read_fault : PageFault → IndexFault
@@ -87,7 +87,7 @@ offered_pages t f = take (2 * t.height + 3) f.free
 abbrev pub HasPathCause : {M : Type 0} → Metrized → OpenFile M → FreePages → Object → DiskState → DiskState → IndexFault → Type 0
 HasPathCause s file f o old new Disk = Rose old.faults new.faults
 HasPathCause s file f o old new (Damaged fault) =
-    IsPathDamage fault × (IsTrue old.tells → faults_of_path s (rules_of s file) (pages_on file old 0).read file.live o ≡ Some fault)
+    IsPathDamage fault × (IsTrue old.is_known → faults_of_path s (rules_of s file) (pages_on file old 0).read file.live o ≡ Some fault)
 HasPathCause s file f o old new (NoRoom pages needed) =
     HasPlaceCause s (rules_of s file) (offered_pages file.live f) file.live o (pages_on file old 0) (pages_on file new 0) (place.NoRoom pages needed)
 HasPathCause s file f o old new Memory = Unit {0}
@@ -102,7 +102,7 @@ BlamesNoPage _ = Unit {0}
 -- the walk of the live tree by child numbers
 abbrev pub HasListCause : {M : Type 0} → OpenFile M → DiskState → ℕ → IndexFault → Type 0
 HasListCause file old faults Disk = Rose old.faults faults
-HasListCause file old faults (Damaged fault) = IsDamage fault × (IsTrue old.tells → tree_walk (pages_on file old 0).read file.live ≡ Err fault)
+HasListCause file old faults (Damaged fault) = IsDamage fault × (IsTrue old.is_known → tree_walk (pages_on file old 0).read file.live ≡ Err fault)
 HasListCause file old faults Memory = Unit {0}
 HasListCause file old faults _ = ⊥
 
@@ -112,7 +112,7 @@ LieOutside read t free = (tree : List ℕ) × (tree_walk read t ≡ Ok tree) × 
 
 -- the free list that a walk makes: no page is held or pinned
 pub record IsMadeList {M : Type 0} (file : OpenFile M) (disk : DiskState) (f : FreePages) : Type 0 where
-  pub free : IsTrue disk.tells → LieOutside (pages_on file disk 0).read file.live f.free
+  pub free : IsTrue disk.is_known → LieOutside (pages_on file disk 0).read file.live f.free
   pub held : f.held ≡ []
   pub pins : f.pins ≡ []
 
@@ -130,7 +130,7 @@ HasInsertCause s index o old new Worn = Unit {0}
 HasInsertCause s index o old new Disk = Rose old.faults new.faults
 HasInsertCause s index o old new (Damaged fault) =
     ((index.free ≡ None) × HasListCause index.file old new.faults (Damaged fault))
-    ⊎ (IsPathDamage fault × ((f : FreePages) × IsListOf index old f) × (IsTrue old.tells →
+    ⊎ (IsPathDamage fault × ((f : FreePages) × IsListOf index old f) × (IsTrue old.is_known →
     faults_of_path s (rules_of s index.file) (pages_on index.file old 0).read index.file.live o ≡ Some fault))
 HasInsertCause s index o old new (NoRoom pages needed) =
     (f : FreePages) × IsListOf index old f

@@ -66,5 +66,5 @@ IsDamageOf dim bytes t Memory = ⊥
 
 -- a page that a refusal blames is damaged in the live tree, where the disk tells its bytes
 abbrev pub BlamesDamage : {M : Type 0} → OpenFile M → DiskState → IndexFault → Type 0
-BlamesDamage file disk (Damaged fault) = IsTrue disk.tells → IsDamageOf file.head.dim disk.bytes file.live fault
+BlamesDamage file disk (Damaged fault) = IsTrue disk.is_known → IsDamageOf file.head.dim disk.bytes file.live fault
 BlamesDamage file disk _ = Unit {0}

@@ -4,9 +4,9 @@ use Rattle.disk_model.specs.Disk.{DiskState, IsUnchanged}
 use Rattle.tree_shape.specs.declared.live.Live.{Live}
 use Rattle.tree_shape.specs.Tree.{Nodes}
 use Rattle.node_page.specs.declared.head.Head.{Head}
-use Rattle.node_page.specs.Heads.{IsLawfulHead}
-use Rattle.node_page.specs.Nodes.{IsLawfulNode}
-use Rattle.node_page.specs.Opening.{OpensTo, IsLawfulLive}
+use Rattle.node_page.specs.Heads.{IsValidHead}
+use Rattle.node_page.specs.Nodes.{IsValidNode}
+use Rattle.node_page.specs.Opening.{OpensTo, IsValidLive}
 use Rattle.page_store.specs.Reading.{IsWithin, nodes_of}
 use Rattle.page_store.specs.Shelf.{Shelf}
 use Rattle.node_page.specs.declared.node.Version.TheVariants.{Second}
@@ -32,21 +32,21 @@ nodes_on file disk = nodes_of (pages_on file disk 0).read
 -- The index stands on the disk: where the disk tells its bytes, they open to the head and the live slot; and what is kept
 -- agrees with its pages.
 pub record StandsOn {M : Type 0} (file : OpenFile M) (disk : DiskState) : Type 0 where
-  pub opens : IsTrue disk.tells → OpensTo disk.bytes file.head file.live
+  pub opens : IsTrue disk.is_known → OpensTo disk.bytes file.head file.live
   pub agrees : KeptAgrees file.kept (pages_on file disk 0)
 
 -- what is kept can be nodes of a file of `pages` pages, whatever a disk holds
-abbrev pub IsLawfulKept : ℕ → ℕ → Option Pairs → Type 0
-IsLawfulKept dim pages kept = MatchOption kept (Unit {0}) (λ pairs. All (λ pair. IsWithin pages pair.0 × IsLawfulNode dim pair.1) pairs.entries)
+abbrev pub IsValidKept : ℕ → ℕ → Option Pairs → Type 0
+IsValidKept dim pages kept = MatchOption kept (Unit {0}) (λ pairs. All (λ pair. IsWithin pages pair.0 × IsValidNode dim pair.1) pairs.entries)
 
--- what always holds of an opened index whose points have `words` coordinates, wherever it stands
-pub record IsLawfulFile {M : Type 0} (words : ℕ) (file : OpenFile M) : Type 0 where
-  pub head : IsLawfulHead file.head
+-- what always holds of an opened index whose points have `dimension` coordinates, wherever it stands
+pub record IsValidFile {M : Type 0} (dimension : ℕ) (file : OpenFile M) : Type 0 where
+  pub head : IsValidHead file.head
   pub version : file.head.version ≡ 2
-  pub words_are : words ≡ file.head.dim
+  pub words_are : dimension ≡ file.head.dim
   pub side : file.live.side ≤ 1
-  pub live : (size : ℕ) × IsLawfulLive file.head.limit size file.live
-  pub kept : IsLawfulKept file.head.dim file.live.pages file.kept
+  pub live : (size : ℕ) × IsValidLive file.head.limit size file.live
+  pub kept : IsValidKept file.head.dim file.live.pages file.kept
 
 -- a call only reads the disk, and changes nothing of the index but what is kept of its pages
 pub record OnlyReads {M : Type 0} (old new : OpenFile M) (before after : DiskState) : Type 0 where

@@ -18,16 +18,16 @@ pub record OpenIndex (M : Type 0) : Type 0 where
   pub workers : ℕ
 
 -- free and held pages may hold nodes, and no commit was named that is still to come
-pub record IsLawfulFree (t : Live) (f : FreePages) : Type 0 where
+pub record IsValidFree (t : Live) (f : FreePages) : Type 0 where
   pub within : AreWithin t.pages f
   pub newest : f.newest ≤ t.generation
   pub pins : AllByRecursion (λ pin. pin ≤ t.generation) f.pins
 
 -- what always holds of an index, wherever it stands
-pub record IsLawfulIndex {M : Type 0} (index : OpenIndex M) : Type 0 where
+pub record IsValidIndex {M : Type 0} (index : OpenIndex M) : Type 0 where
   pub some_workers : 1 ≤ index.workers
   pub few_workers : index.workers ≤ 64
-  pub free : MatchOption index.free (Unit {0}) (IsLawfulFree index.file.live)
+  pub free : MatchOption index.free (Unit {0}) (IsValidFree index.file.live)
 
 -- free and held pages lie beside the live tree: it stands on pages that hold nodes, and none of them is free or held
 pub record AreSpare (nodes : Nodes) (t : Live) (f : FreePages) : Type 0 where
@@ -40,8 +40,8 @@ pub record AreSpare (nodes : Nodes) (t : Live) (f : FreePages) : Type 0 where
 -- what is kept agrees with its pages, and the free and held pages lie beside its live tree.
 pub record StandsAlone {M : Type 0} (index : OpenIndex M) (disk : DiskState) : Type 0 where
   pub stands : StandsOn index.file disk
-  pub only : IsTrue disk.tells → LeavesOnly disk disk.bytes
-  pub spare : IsTrue disk.tells → MatchOption index.free (Unit {0}) (AreSpare (nodes_on index.file disk) index.file.live)
+  pub only : IsTrue disk.is_known → LeavesOnly disk disk.bytes
+  pub spare : IsTrue disk.is_known → MatchOption index.free (Unit {0}) (AreSpare (nodes_on index.file disk) index.file.live)
 
 -- the index is stopped, or stands on the disk
 abbrev pub MayGoOn : {M : Type 0} → OpenIndex M → DiskState → Type 0

@@ -66,7 +66,7 @@ tree_after s head (Loads rows labels) count tree = built s rows labels
 
 -- the disk tells its bytes, the live tree in them is sound, and its objects have `points` and `tags`, in order of id
 pub record HasObjects {M : Type 0} (s : Space) (file : OpenFile M) (disk : DiskState) (points : List (List ℕ)) (tags : List ℕ) : Type 0 where
-  pub tells : IsTrue disk.tells
+  pub is_known : IsTrue disk.is_known
   pub sound : IsSoundTree s (nodes_on file disk) file.live
   pub points_are : points_on file disk ≡ points
   pub tags_are : tags_on file disk ≡ tags
@@ -159,7 +159,7 @@ pub record HasWritten {M : Type 0} (s : Space) (write : Write) (old new : OpenIn
   pub least : OnOk result (StandsOnLeast s write old new before after)
   pub exact : (points : List (List ℕ)) (tags : List ℕ) → HasObjects s old.file before points tags → IsExact old before → IsExact new after
   pub guarded : (generation : ℕ) (tree : List ℕ) → GuardsPages generation tree old → OnOk result (GuardsPages generation tree new)
-  pub kept : (generation : ℕ) (tree : List ℕ) → IsTrue before.tells → GuardsPages generation tree old → KeepsPages tree before after
+  pub kept : (generation : ℕ) (tree : List ℕ) → IsTrue before.is_known → GuardsPages generation tree old → KeepsPages tree before after
 
 -- ---- one commit
 
@@ -209,6 +209,6 @@ pub record IsCommitted {M : Type 0} (old new : OpenFile M) (f g : FreePages) (us
   pub free : g ≡ after_commit used placed.left placed.next.generation (record f { spare = spare })
   pub within : AreWithin placed.next.pages g
   pub stands : StandsOn new after
-  pub only : IsTrue after.tells → LeavesOnly after after.bytes
-  pub beside : IsTrue after.tells → AreSpare (nodes_on new after) placed.next g
-  pub next : IsTrue before.tells → HasNext old.head.dim placed.next placed.staged after.bytes
+  pub only : IsTrue after.is_known → LeavesOnly after after.bytes
+  pub beside : IsTrue after.is_known → AreSpare (nodes_on new after) placed.next g
+  pub next : IsTrue before.is_known → HasNext old.head.dim placed.next placed.staged after.bytes

@@ -4,7 +4,7 @@ ghost use Rattle.scan_model.specs.declared.query.Query.TheVariants.{Range, Neare
 ghost use Rattle.disk_model.specs.Disk.{MayLeave, LeavesOnly, EachImage};
 ghost use Rattle.nearest_search.specs.Searched.{IsFront};
 ghost use Rattle.page_store.specs.Shelf.{Shelf};
-ghost use Rattle.index_core.specs.Files.{IsLawfulFile, OnlyReads, nodes_on};
+ghost use Rattle.index_core.specs.Files.{IsValidFile, OnlyReads, nodes_on};
 ghost use Rattle.index_core.specs.Index.{StandsAlone, MayGoOn};
 ghost use Rattle.index_core.specs.Causes.{HasReaderCause};
 ghost use Rattle.index_core.specs.Damage.{BlamesDamage};
@@ -35,33 +35,33 @@ pub struct Index<M: Metric> {
 }
 
 impl<M: Metric> Model for Index<M> {
-    ghost use Rattle.index_core.specs.Index.{OpenIndex, IsLawfulIndex};
+    ghost use Rattle.index_core.specs.Index.{OpenIndex, IsValidIndex};
 
     ghost Value = { OpenIndex M };
 
     ghost view = { λ i. record { file = i.view; free = i.free; stopped = i.stopped; workers = i.workers } };
 
-    ghost invariant = { λ i. IsLawfulIndex (record { file = i.view; free = i.free; stopped = i.stopped; workers = i.workers }) };
+    ghost invariant = { λ i. IsValidIndex (record { file = i.view; free = i.free; stopped = i.stopped; workers = i.workers }) };
 }
 
 impl<M: Metric> Index<M> {
     /// Opens an index file whose points `metric` measures, after a sync: what a read gives then is all that a crash may leave.
     /// The faults are those of `View::open_read`. `Disk` comes also where the sync failed. A load uses one thread, and no free list
     /// is made yet.
-    /// Clauses: the answer (`stands`, `lawful`, `opened`); what stays (`bytes`, `tells`); what a crash may leave (`time`, `fewer`,
+    /// Clauses: the answer (`stands`, `valid`, `opened`); what stays (`bytes`, `is_known`); what a crash may leave (`time`, `fewer`,
     /// `synced`); the cost (`reads`); the cause of an error (`cause`); faults of the devices (`later`, `no_fault`).
     pub fn open_write<D: Disk>(disk: &mut D, metric: M) -> Result<Self, OpenFault>
         ensures stands { IfOk result (λ index. StandsAlone index (D.state disk.new)) }
-        ensures lawful { IfOk result (λ index. IsLawfulFile (M.space metric).words index.file) }
+        ensures valid { IfOk result (λ index. IsValidFile (M.space metric).dimension index.file) }
         ensures opened { IfOk result (λ index. index ≡ record {
           file = record index.file { metric = metric; kept = None };
           free = None;
           stopped = false;
           workers = 1;
         }) }
-        ensures cause { IfErr result (HasReaderCause (M.space metric).words (D.state disk.old) (D.state disk.new)) }
+        ensures cause { IfErr result (HasReaderCause (M.space metric).dimension (D.state disk.old) (D.state disk.new)) }
         ensures bytes { (D.state disk.new).bytes ≡ (D.state disk.old).bytes }
-        ensures tells { (D.state disk.new).tells ≡ (D.state disk.old).tells }
+        ensures is_known { (D.state disk.new).is_known ≡ (D.state disk.old).is_known }
         // The sync only removes crash images. A refusal other than `Disk` comes after it.
         ensures time { EachImage (D.state disk.old) (D.state disk.new) (MayLeave (D.state disk.old)) }
         ensures fewer { (image : List ℕ) → MayLeave (D.state disk.new) image → MayLeave (D.state disk.old) image }
@@ -83,10 +83,10 @@ impl<M: Metric> Index<M> {
     }
 
     /// States what always holds of an opened index, for callers that hold a reference to one.
-    pub fn is_lawful(&self)
-        ensures { IsLawfulFile (M.space self.now.file.metric).words self.now.file }
+    pub fn is_valid(&self)
+        ensures { IsValidFile (M.space self.now.file.metric).dimension self.now.file }
     {
-        self.view.is_lawful();
+        self.view.is_valid();
     }
 
     /// Sets how many threads a load may use from now on, 1 to 64.
@@ -160,7 +160,7 @@ impl<M: Metric> Index<M> {
         r: u64,
     ) -> Result<Found, IndexFault>
         requires stands { MayGoOn self.old (D.state disk.old) }
-        requires point { IsTrue ((M.space self.old.file.metric).fits q.now) }
+        requires point { IsTrue ((M.space self.old.file.metric).is_point q.now) }
         ensures stopped { self.old.stopped ≡ true → (result ≡ Err IndexFault.Stopped) × (self.new ≡ self.old) × (disk.new ≡ disk.old) }
         ensures stands { MayGoOn self.new (D.state disk.new) }
         ensures reads { OnlyReads self.old.file self.new.file (D.state disk.old) (D.state disk.new) }
@@ -194,7 +194,7 @@ impl<M: Metric> Index<M> {
         k: u64,
     ) -> Result<Found, IndexFault>
         requires stands { MayGoOn self.old (D.state disk.old) }
-        requires point { IsTrue ((M.space self.old.file.metric).fits q.now) }
+        requires point { IsTrue ((M.space self.old.file.metric).is_point q.now) }
         requires some { 1 ≤ k }
         ensures stopped { self.old.stopped ≡ true → (result ≡ Err IndexFault.Stopped) × (self.new ≡ self.old) × (disk.new ≡ disk.old) }
         ensures stands { MayGoOn self.new (D.state disk.new) }
@@ -205,7 +205,7 @@ impl<M: Metric> Index<M> {
         ensures searched { self.old.stopped ≡ false → HasSearched (M.space self.old.file.metric) self.old.file (Nearest q.now k)
             (D.state disk.old) (D.state disk.new) result }
         // On any file: the records are a front of a walk with the least marks, and the answers are those that the records name.
-        ensures front { IfOk result (λ found. IsTrue (D.state disk.old).tells →
+        ensures front { IfOk result (λ found. IsTrue (D.state disk.old).is_known →
             IsFront (M.space self.old.file.metric) (nodes_on self.old.file (D.state disk.old)) self.old.file.live q.now k found) }
         ensures cause { self.old.stopped ≡ false → IfErr result (HasReachCause self.old.file (D.state disk.old) (D.state disk.new)) }
         // A page that the refusal blames is damaged.

@@ -6,7 +6,7 @@ ghost use Rattle.index_core.specs.Answers.{IsSoundOn};
 ghost use Rattle.index_core.specs.Causes.{BlamesNoPage, HasInsertCause};
 ghost use Rattle.index_core.specs.Damage.{BlamesDamage};
 ghost use Rattle.index_core.specs.Files.{StandsOn, nodes_on};
-ghost use Rattle.index_core.specs.Index.{AreSpare, IsLawfulFree, MayGoOn};
+ghost use Rattle.index_core.specs.Index.{AreSpare, IsValidFree, MayGoOn};
 ghost use Rattle.index_core.specs.Writing.{Follows, HasWritten, Inserts, IsNumberedFor, IsPlacedFor, IsPlacedOn, Write, added_by, answer_to};
 
 use crate::IndexFault;
@@ -21,9 +21,9 @@ use tree_shape::{LAST_GENERATION, Live};
 impl<M: Metric> Index<M> {
     // Commits `placement`, made on pages of the free list `free`, and then returns `answer`. A disk fault in the commit stops the
     // index.
-    // Clauses: what is asked of the caller (`going`, `stands`, `only`, `lawful`, `beside`, `placed`, `follows`); what the commit does, and
-    // what a crash may leave (`written`); what stays (`stands`, `tells`); the cost (`reads`); the cause of an error (`refusals`, `rose`);
-    // faults of the devices (`later`, `no_fault`).
+    // Clauses: what is asked of the caller (`going`, `stands`, `only`, `valid`, `beside`, `placed`, `follows`); what the commit does, and
+    // what a crash may leave (`written`); what stays (`stands`, `is_known`); the cost (`reads`); the cause of an error (`refusals`,
+    // `rose`); faults of the devices (`later`, `no_fault`).
     pub(crate) fn commit_placed<D: Disk>(
         &mut self,
         disk: &mut D,
@@ -33,11 +33,12 @@ impl<M: Metric> Index<M> {
     ) -> Result<u32, IndexFault>
         requires going { self.old.stopped ≡ false }
         requires stands { StandsOn self.old.file (D.state disk.old) }
-        requires only { IsTrue (D.state disk.old).tells → LeavesOnly (D.state disk.old) (D.state disk.old).bytes }
-        requires lawful { IsLawfulFree self.old.file.live free }
-        requires beside { IsTrue (D.state disk.old).tells → AreSpare (nodes_on self.old.file (D.state disk.old)) self.old.file.live free }
+        requires only { IsTrue (D.state disk.old).is_known → LeavesOnly (D.state disk.old) (D.state disk.old).bytes }
+        requires valid { IsValidFree self.old.file.live free }
+        requires beside { IsTrue (D.state disk.old).is_known →
+            AreSpare (nodes_on self.old.file (D.state disk.old)) self.old.file.live free }
         requires placed { IsPlacedOn self.old.file free placement.now.used placement.now.placed }
-        requires follows { IsTrue (D.state disk.old).tells →
+        requires follows { IsTrue (D.state disk.old).is_known →
             Follows (nodes_on self.old.file (D.state disk.old)) self.old.file.live placement.now.placed }
         ensures stands { MayGoOn self.new (D.state disk.new) }
         ensures written { (write : Write) → placement.now.placed.next.count ≡ self.old.file.live.count + added_by write →
@@ -50,12 +51,12 @@ impl<M: Metric> Index<M> {
             (D.state disk.new) result }
         ensures refusals { IfErr result (λ fault. (fault ≡ IndexFault.Memory) ⊎ (fault ≡ IndexFault.Commit)) }
         ensures rose { IfErr result (λ fault. fault ≡ IndexFault.Commit → Rose (D.state disk.old).faults (D.state disk.new).faults) }
-        ensures tells { (D.state disk.new).tells ≡ (D.state disk.old).tells }
+        ensures is_known { (D.state disk.new).is_known ≡ (D.state disk.old).is_known }
         ensures reads { (D.state disk.new).reads ≤ (D.state disk.old).reads + 1 }
         ensures later { (D.state disk.old).faults ≤ (D.state disk.new).faults }
         ensures no_fault { OnOk result ((D.state disk.new).faults ≡ (D.state disk.old).faults) }
     {
-        self.view.is_lawful();
+        self.view.is_valid();
         let mut free = free;
         let Ok(()) = free.reserve(placement.placed.left.as_slice().len()) else {
             self.free = Some(free);
@@ -76,7 +77,7 @@ impl<M: Metric> Index<M> {
     /// Adds an object with point `p`, and returns its id, which is the number of objects before. Its tag is the id. The
     /// refusals are those of `insert_tagged`.
     /// Clauses: what is asked of the caller (`stands`, `point`); what the commit does, and what a crash may leave (`written`); what stays
-    /// (`stands`, `tells`); the cost (`few`, `most`); the cause of an error (`stopped`, `full`, `worn`, `cause`, `damage`, `undamaged`);
+    /// (`stands`, `is_known`); the cost (`few`, `most`); the cause of an error (`stopped`, `full`, `worn`, `cause`, `damage`, `undamaged`);
     /// faults of the devices (`later`, `no_fault`).
     pub fn insert<D: Disk>(
         &mut self,
@@ -85,7 +86,7 @@ impl<M: Metric> Index<M> {
         p: &[u32],
     ) -> Result<u32, IndexFault>
         requires stands { MayGoOn self.old (D.state disk.old) }
-        requires point { IsTrue ((M.space self.old.file.metric).fits p.now) }
+        requires point { IsTrue ((M.space self.old.file.metric).is_point p.now) }
         ensures stands { MayGoOn self.new (D.state disk.new) }
         ensures stopped { self.old.stopped ≡ true → (result ≡ Err IndexFault.Stopped) × (self.new ≡ self.old) × (disk.new ≡ disk.old) }
         ensures written { self.old.stopped ≡ false →
@@ -104,7 +105,7 @@ impl<M: Metric> Index<M> {
             IsSoundOn (M.space self.old.file.metric) self.old.file (D.state disk.old) → BlamesNoPage fault) }
         ensures few { IsSome self.old.free → (D.state disk.new).reads ≤ (D.state disk.old).reads + (self.old.file.live.height + 2) }
         ensures most { (D.state disk.new).reads ≤ (D.state disk.old).reads + (self.old.file.live.pages + (self.old.file.live.height + 2)) }
-        ensures tells { (D.state disk.new).tells ≡ (D.state disk.old).tells }
+        ensures is_known { (D.state disk.new).is_known ≡ (D.state disk.old).is_known }
         ensures later { (D.state disk.old).faults ≤ (D.state disk.new).faults }
         ensures no_fault { OnOk result ((D.state disk.new).faults ≡ (D.state disk.old).faults) }
     {
@@ -123,7 +124,7 @@ impl<M: Metric> Index<M> {
     /// the object or not, and has to be opened anew. `Memory` may come in place of any but the first three, and never after the
     /// first write.
     /// Clauses: what is asked of the caller (`stands`, `point`); what the commit does, and what a crash may leave (`written`); what stays
-    /// (`stands`, `tells`); the cost (`few`, `most`); the cause of an error (`stopped`, `full`, `worn`, `cause`, `damage`, `undamaged`);
+    /// (`stands`, `is_known`); the cost (`few`, `most`); the cause of an error (`stopped`, `full`, `worn`, `cause`, `damage`, `undamaged`);
     /// faults of the devices (`later`, `no_fault`).
     pub fn insert_tagged<D: Disk>(
         &mut self,
@@ -133,7 +134,7 @@ impl<M: Metric> Index<M> {
         tag: u64,
     ) -> Result<u32, IndexFault>
         requires stands { MayGoOn self.old (D.state disk.old) }
-        requires point { IsTrue ((M.space self.old.file.metric).fits p.now) }
+        requires point { IsTrue ((M.space self.old.file.metric).is_point p.now) }
         ensures stands { MayGoOn self.new (D.state disk.new) }
         ensures stopped { self.old.stopped ≡ true → (result ≡ Err IndexFault.Stopped) × (self.new ≡ self.old) × (disk.new ≡ disk.old) }
         ensures written { self.old.stopped ≡ false →
@@ -151,14 +152,14 @@ impl<M: Metric> Index<M> {
             IsSoundOn (M.space self.old.file.metric) self.old.file (D.state disk.old) → BlamesNoPage fault) }
         ensures few { IsSome self.old.free → (D.state disk.new).reads ≤ (D.state disk.old).reads + (self.old.file.live.height + 2) }
         ensures most { (D.state disk.new).reads ≤ (D.state disk.old).reads + (self.old.file.live.pages + (self.old.file.live.height + 2)) }
-        ensures tells { (D.state disk.new).tells ≡ (D.state disk.old).tells }
+        ensures is_known { (D.state disk.new).is_known ≡ (D.state disk.old).is_known }
         ensures later { (D.state disk.old).faults ≤ (D.state disk.new).faults }
         ensures no_fault { OnOk result ((D.state disk.new).faults ≡ (D.state disk.old).faults) }
     {
         if self.stopped {
             return Err(IndexFault::Stopped);
         }
-        self.view.is_lawful();
+        self.view.is_valid();
         let Live {
             count,
             generation,

@@ -4,7 +4,7 @@ ghost use Rattle.free_pages.specs.Keeping.{IsKept};
 ghost use Rattle.index_core.specs.Answers.{IsSoundOn};
 ghost use Rattle.index_core.specs.Causes.{BlamesNoPage, HasListCause, IsListOf, IsMadeList};
 ghost use Rattle.index_core.specs.Files.{StandsOn, OnlyReads, nodes_on};
-ghost use Rattle.index_core.specs.Index.{AreSpare, IsLawfulFree, StandsAlone};
+ghost use Rattle.index_core.specs.Index.{AreSpare, IsValidFree, StandsAlone};
 ghost use Rattle.index_core.specs.Writing.{IsExact, IsExactFor};
 
 use crate::IndexFault;
@@ -18,7 +18,7 @@ use std::alloc::Global;
 
 impl<M: Metric> View<M> {
     // Lists the pages that the live tree does not need, by a walk of the tree.
-    // Clauses: what is asked of the caller (`stands`); the answer (`kept`, `made`, `lawful`, `beside`, `exact`); what stays (`stands`,
+    // Clauses: what is asked of the caller (`stands`); the answer (`kept`, `made`, `valid`, `beside`, `exact`); what stays (`stands`,
     // `reads`); the cost (`few`); the cause of an error (`cause`, `undamaged`); faults of the devices (`no_fault`).
     fn list_free<D: Disk>(&mut self, alloc: Global, disk: &mut D) -> Result<Free, IndexFault>
         requires stands { StandsOn self.old (D.state disk.old) }
@@ -28,8 +28,8 @@ impl<M: Metric> View<M> {
         ensures few { (D.state disk.new).reads ≤ (D.state disk.old).reads + self.old.live.pages }
         ensures kept { IfOk result IsKept }
         ensures made { IfOk result (IsMadeList self.old (D.state disk.old)) }
-        ensures lawful { IfOk result (IsLawfulFree self.old.live) }
-        ensures beside { IfOk result (λ f. IsTrue (D.state disk.old).tells →
+        ensures valid { IfOk result (IsValidFree self.old.live) }
+        ensures beside { IfOk result (λ f. IsTrue (D.state disk.old).is_known →
             AreSpare (nodes_on self.old (D.state disk.old)) self.old.live f) }
         ensures exact { IfOk result (λ f. IsSoundOn (M.space self.old.metric) self.old (D.state disk.old) →
             IsExactFor self.old f (D.state disk.old)) }
@@ -52,7 +52,7 @@ impl<M: Metric> View<M> {
 
 impl<M: Metric> Index<M> {
     // Takes the free list out. Where it isn't made yet, the live tree is walked once.
-    // Clauses: what is asked of the caller (`stands`); the answer (`list`, `kept`, `lawful`, `beside`, `exact`); what changes (`rest`);
+    // Clauses: what is asked of the caller (`stands`); the answer (`list`, `kept`, `valid`, `beside`, `exact`); what changes (`rest`);
     // what stays (`stands`, `reads`, `there`); the cost (`few`); the cause of an error (`made`, `cause`, `undamaged`); faults of the
     // devices (`no_fault`).
     pub(crate) fn take_free<D: Disk>(
@@ -68,8 +68,8 @@ impl<M: Metric> Index<M> {
         ensures rest { self.new ≡ record self.old { file = self.new.file; free = None } }
         ensures list { IfOk result (IsListOf self.old (D.state disk.old)) }
         ensures kept { IfOk result IsKept }
-        ensures lawful { IfOk result (IsLawfulFree self.old.file.live) }
-        ensures beside { IfOk result (λ f. IsTrue (D.state disk.old).tells →
+        ensures valid { IfOk result (IsValidFree self.old.file.live) }
+        ensures beside { IfOk result (λ f. IsTrue (D.state disk.old).is_known →
             AreSpare (nodes_on self.old.file (D.state disk.old)) self.old.file.live f) }
         ensures exact { IfOk result (λ f. IsSoundOn (M.space self.old.file.metric) self.old.file (D.state disk.old) →
             IsExact self.old (D.state disk.old) → IsExactFor self.old.file f (D.state disk.old)) }

@@ -8,7 +8,7 @@ ghost use Rattle.index_core.specs.Answers.{IsSoundOn};
 ghost use Rattle.index_core.specs.Causes.{BlamesNoPage};
 ghost use Rattle.index_core.specs.Damage.{BlamesDamage};
 ghost use Rattle.index_core.specs.Files.{StandsOn, nodes_on};
-ghost use Rattle.index_core.specs.Index.{AreSpare, IsLawfulFree, MayGoOn};
+ghost use Rattle.index_core.specs.Index.{AreSpare, IsValidFree, MayGoOn};
 ghost use Rattle.index_core.specs.Loading.{HasLoadCause, HasLoadingCause, build_fault, ids, load_fault};
 ghost use Rattle.index_core.specs.Writing.{HasWritten, IsNumberedFor, IsPlacedFor, IsPlacedOn, Loads};
 
@@ -36,7 +36,7 @@ fn build_fault(fault: BuildFault) -> IndexFault
 
 impl<M: Metric> View<M> {
     // Places the tree of `rows` with `tags` on free pages, in place of a tree that has no objects.
-    // Clauses: what is asked of the caller (`ready`, `empty`, `unworn`, `some`, `few`, `fits`, `tags`, `some_workers`, `few_workers`,
+    // Clauses: what is asked of the caller (`ready`, `empty`, `unworn`, `some`, `few`, `is_point`, `tags`, `some_workers`, `few_workers`,
     // `within`); the answer (`placed`, `numbered`, `many`, `by_itself`, `loads`); the cause of an error (`cause`).
     // Arguments: `crew` and `workers` do the work, `free` has the pages, and `rows` and `tags` are the objects.
     pub(crate) fn build<W: Crew<M>>(
@@ -53,7 +53,7 @@ impl<M: Metric> View<M> {
         requires unworn { self.now.live.generation ≢ 2 ^ 48 - 1 }
         requires some { 0 < length rows.now.points }
         requires few { length rows.now.points ≤ self.now.head.limit }
-        requires fits { All (λ p. IsTrue ((M.space self.now.metric).fits p)) rows.now.points }
+        requires is_point { All (λ p. IsTrue ((M.space self.now.metric).is_point p)) rows.now.points }
         requires tags { length tags.now ≡ length rows.now.points }
         requires some_workers { 1 ≤ workers }
         requires few_workers { workers ≤ 64 }
@@ -125,9 +125,9 @@ impl<M: Metric> Index<M> {
     }
 
     // Loads `rows`, which may be loaded, on pages of the free list `free`.
-    // Clauses: what is asked of the caller (`ready`, `may`, `stands`, `only`, `lawful`, `beside`, `some`, `fits`, `tags`); what the commit
-    // does, and what a crash may leave (`written`); what stays (`stands`, `tells`); the cost (`reads`); the cause of an error (`cause`,
-    // `undamaged`); faults of the devices (`later`, `no_fault`).
+    // Clauses: what is asked of the caller (`ready`, `may`, `stands`, `only`, `valid`, `beside`, `some`, `is_point`, `tags`); what the
+    // commit does, and what a crash may leave (`written`); what stays (`stands`, `is_known`); the cost (`reads`); the cause of an error
+    // (`cause`, `undamaged`); faults of the devices (`later`, `no_fault`).
     // Arguments: `crew` does the work, `self` and `disk` are the index and its file, `free` has the pages, and `rows` and `tags` are the
     // objects.
     fn load_on<W: Crew<M>, D: Disk>(
@@ -142,11 +142,12 @@ impl<M: Metric> Index<M> {
         requires ready { W.ready crew.now }
         requires may { load_fault self.old (length rows.now.points) ≡ None }
         requires stands { StandsOn self.old.file (D.state disk.old) }
-        requires only { IsTrue (D.state disk.old).tells → LeavesOnly (D.state disk.old) (D.state disk.old).bytes }
-        requires lawful { IsLawfulFree self.old.file.live free }
-        requires beside { IsTrue (D.state disk.old).tells → AreSpare (nodes_on self.old.file (D.state disk.old)) self.old.file.live free }
+        requires only { IsTrue (D.state disk.old).is_known → LeavesOnly (D.state disk.old) (D.state disk.old).bytes }
+        requires valid { IsValidFree self.old.file.live free }
+        requires beside { IsTrue (D.state disk.old).is_known →
+            AreSpare (nodes_on self.old.file (D.state disk.old)) self.old.file.live free }
         requires some { 0 < length rows.now.points }
-        requires fits { All (λ p. IsTrue ((M.space self.old.file.metric).fits p)) rows.now.points }
+        requires is_point { All (λ p. IsTrue ((M.space self.old.file.metric).is_point p)) rows.now.points }
         requires tags { length tags.now ≡ length rows.now.points }
         ensures stands { MayGoOn self.new (D.state disk.new) }
         ensures written { HasWritten (M.space self.old.file.metric) (Loads rows.now.points tags.now)
@@ -154,12 +155,12 @@ impl<M: Metric> Index<M> {
         ensures cause { IfErr result (HasLoadingCause (M.space self.old.file.metric) (record self.old { free = Some free })
             rows.now.points tags.now (D.state disk.old) (D.state disk.new).faults) }
         ensures undamaged { IfErr result BlamesNoPage }
-        ensures tells { (D.state disk.new).tells ≡ (D.state disk.old).tells }
+        ensures is_known { (D.state disk.new).is_known ≡ (D.state disk.old).is_known }
         ensures reads { (D.state disk.new).reads ≤ (D.state disk.old).reads + 1 }
         ensures later { (D.state disk.old).faults ≤ (D.state disk.new).faults }
         ensures no_fault { OnOk result ((D.state disk.new).faults ≡ (D.state disk.old).faults) }
     {
-        self.view.is_lawful();
+        self.view.is_valid();
         match self
             .view
             .build(crew, alloc, self.workers, &free, rows, tags)
@@ -177,8 +178,8 @@ impl<M: Metric> Index<M> {
 
     /// Loads `rows` into an index that has no objects, and returns how many they are. Row i gets the id i, and its id as its
     /// tag. The refusals are those of `load_tagged`.
-    /// Clauses: what is asked of the caller (`ready`, `stands`, `some`, `fits`); what the commit does, and what a crash may leave
-    /// (`written`); what stays (`stands`, `tells`); the cost (`few`, `most`); the cause of an error (`refused`, `cause`, `damage`,
+    /// Clauses: what is asked of the caller (`ready`, `stands`, `some`, `is_point`); what the commit does, and what a crash may leave
+    /// (`written`); what stays (`stands`, `is_known`); the cost (`few`, `most`); the cause of an error (`refused`, `cause`, `damage`,
     /// `undamaged`); faults of the devices (`later`, `no_fault`).
     pub fn load<W: Crew<M>, D: Disk>(
         &mut self,
@@ -190,7 +191,7 @@ impl<M: Metric> Index<M> {
         requires ready { W.ready crew.now }
         requires stands { MayGoOn self.old (D.state disk.old) }
         requires some { 0 < length rows.now.points }
-        requires fits { All (λ p. IsTrue ((M.space self.old.file.metric).fits p)) rows.now.points }
+        requires is_point { All (λ p. IsTrue ((M.space self.old.file.metric).is_point p)) rows.now.points }
         ensures refused { (fault : IndexFault) → load_fault self.old (length rows.now.points) ≡ Some fault →
             (result ≡ Err fault) × (self.new ≡ self.old) × (disk.new ≡ disk.old) }
         ensures stands { MayGoOn self.new (D.state disk.new) }
@@ -206,11 +207,11 @@ impl<M: Metric> Index<M> {
             IsSoundOn (M.space self.old.file.metric) self.old.file (D.state disk.old) → BlamesNoPage fault) }
         ensures few { IsSome self.old.free → (D.state disk.new).reads ≤ (D.state disk.old).reads + 1 }
         ensures most { (D.state disk.new).reads ≤ (D.state disk.old).reads + (self.old.file.live.pages + 1) }
-        ensures tells { (D.state disk.new).tells ≡ (D.state disk.old).tells }
+        ensures is_known { (D.state disk.new).is_known ≡ (D.state disk.old).is_known }
         ensures later { (D.state disk.old).faults ≤ (D.state disk.new).faults }
         ensures no_fault { OnOk result ((D.state disk.new).faults ≡ (D.state disk.old).faults) }
     {
-        self.view.is_lawful();
+        self.view.is_valid();
         if let Err(fault) = self.may_load(rows.len()) {
             return Err(fault);
         }
@@ -227,8 +228,8 @@ impl<M: Metric> Index<M> {
     /// or `Damaged` (`Bad`, `Outside` or `Repeats`, with the page) of the walk that makes the free list, where it isn't made yet;
     /// `NoRoom` where the new nodes need more pages than a file may have; `Memory`; and `Commit` where the disk failed in the commit.
     /// `Commit` stops the index: the file then has the objects or not, and has to be opened anew.
-    /// Clauses: what is asked of the caller (`ready`, `stands`, `some`, `fits`, `tags`); what the commit does, and what a crash may leave
-    /// (`written`); what stays (`stands`, `tells`); the cost (`few`, `most`); the cause of an error (`refused`, `cause`, `damage`,
+    /// Clauses: what is asked of the caller (`ready`, `stands`, `some`, `is_point`, `tags`); what the commit does, and what a crash may
+    /// leave (`written`); what stays (`stands`, `is_known`); the cost (`few`, `most`); the cause of an error (`refused`, `cause`, `damage`,
     /// `undamaged`); faults of the devices (`later`, `no_fault`).
     pub fn load_tagged<W: Crew<M>, D: Disk>(
         &mut self,
@@ -241,7 +242,7 @@ impl<M: Metric> Index<M> {
         requires ready { W.ready crew.now }
         requires stands { MayGoOn self.old (D.state disk.old) }
         requires some { 0 < length rows.now.points }
-        requires fits { All (λ p. IsTrue ((M.space self.old.file.metric).fits p)) rows.now.points }
+        requires is_point { All (λ p. IsTrue ((M.space self.old.file.metric).is_point p)) rows.now.points }
         requires tags { length tags.now ≡ length rows.now.points }
         ensures refused { (fault : IndexFault) → load_fault self.old (length rows.now.points) ≡ Some fault →
             (result ≡ Err fault) × (self.new ≡ self.old) × (disk.new ≡ disk.old) }
@@ -258,11 +259,11 @@ impl<M: Metric> Index<M> {
             IsSoundOn (M.space self.old.file.metric) self.old.file (D.state disk.old) → BlamesNoPage fault) }
         ensures few { IsSome self.old.free → (D.state disk.new).reads ≤ (D.state disk.old).reads + 1 }
         ensures most { (D.state disk.new).reads ≤ (D.state disk.old).reads + (self.old.file.live.pages + 1) }
-        ensures tells { (D.state disk.new).tells ≡ (D.state disk.old).tells }
+        ensures is_known { (D.state disk.new).is_known ≡ (D.state disk.old).is_known }
         ensures later { (D.state disk.old).faults ≤ (D.state disk.new).faults }
         ensures no_fault { OnOk result ((D.state disk.new).faults ≡ (D.state disk.old).faults) }
     {
-        self.view.is_lawful();
+        self.view.is_valid();
         if let Err(fault) = self.may_load(rows.len()) {
             return Err(fault);
         }

@@ -5,7 +5,7 @@ ghost use Rattle.index_core.specs.Answers.{IsSoundOn};
 ghost use Rattle.index_core.specs.Causes.{BlamesNoPage, HasListCause};
 ghost use Rattle.index_core.specs.Damage.{BlamesDamage};
 ghost use Rattle.index_core.specs.Files.{OnlyReads, nodes_on};
-ghost use Rattle.index_core.specs.Index.{IsLawfulFree, MayGoOn};
+ghost use Rattle.index_core.specs.Index.{IsValidFree, MayGoOn};
 ghost use Rattle.index_core.specs.Pinning.{AreReached, HasPinned, IsPinned, LiesBesideTree, LiesOutside, unpinned};
 ghost use Rattle.index_core.specs.Writing.{GuardsPages, IsExact, IsRefused};
 
@@ -36,7 +36,7 @@ impl<M: Metric> Index<M> {
         ensures live { IfOk result (λ live. live ≡ self.old.file.live) }
         ensures pinned { OnOk result (HasPinned self.old.file.live.generation self.old self.new) }
         // The pages to which child numbers lead are guarded from now on, and what was guarded stays so.
-        ensures guards { OnOk result (IsTrue (D.state disk.old).tells → (tree : List ℕ) →
+        ensures guards { OnOk result (IsTrue (D.state disk.old).is_known → (tree : List ℕ) →
             AreReached (nodes_on self.old.file (D.state disk.old)) self.old.file.live.root tree →
             GuardsPages self.old.file.live.generation tree self.new) }
         ensures guarded { (generation : ℕ) (tree : List ℕ) → GuardsPages generation tree self.old → GuardsPages generation tree self.new }
@@ -68,7 +68,7 @@ impl<M: Metric> Index<M> {
 
     // Puts the free list `free` back.
     pub(crate) fn put_free(&mut self, free: Free)
-        requires { IsLawfulFree self.old.file.live free }
+        requires { IsValidFree self.old.file.live free }
         ensures { self.new ≡ record self.old { free = Some free } }
     {
         self.free = Some(free);

@@ -40,10 +40,10 @@ impl<M: Metric> View<M> {
         tag: u64,
     ) -> Result<Placement, IndexFault>
         requires stands { StandsOn self.old (D.state disk.old) }
-        requires point { IsTrue ((M.space self.old.metric).fits p.now) }
+        requires point { IsTrue ((M.space self.old.metric).is_point p.now) }
         requires more { self.old.live.count ≢ self.old.head.limit }
         requires unworn { self.old.live.generation ≢ 2 ^ 48 - 1 }
-        requires beside { IsTrue (D.state disk.old).tells → AreSpare (nodes_on self.old (D.state disk.old)) self.old.live free.now }
+        requires beside { IsTrue (D.state disk.old).is_known → AreSpare (nodes_on self.old (D.state disk.old)) self.old.live free.now }
         requires within { AreWithin self.old.live.pages free.now }
         ensures stands { StandsOn self.new (D.state disk.new) }
         ensures reads { OnlyReads self.old self.new (D.state disk.old) (D.state disk.new) }
@@ -51,7 +51,7 @@ impl<M: Metric> View<M> {
         ensures placed { IfOk result (λ placement. IsPlacedOn self.old free.now placement.used placement.placed) }
         ensures numbered { IfOk result (λ placement. IsNumberedFor (Inserts p.now tag) self.old free.now placement.placed) }
         ensures one { IfOk result (λ placement. placement.placed.next.count ≡ self.old.live.count + 1) }
-        ensures takes_place { IfOk result (λ placement. IsTrue (D.state disk.old).tells →
+        ensures takes_place { IfOk result (λ placement. IsTrue (D.state disk.old).is_known →
             TakesPlace (nodes_on self.old (D.state disk.old)) self.old.live placement.placed) }
         ensures inserts { IfOk result (λ placement. IsSoundOn (M.space self.old.metric) self.old (D.state disk.old) →
             IsPlacedFor (M.space self.old.metric) self.old.head (Inserts p.now tag) (nodes_on self.old (D.state disk.old))

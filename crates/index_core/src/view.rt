@@ -6,7 +6,7 @@ ghost use Rattle.nearest_search.specs.Searched.{IsFront};
 ghost use Rattle.page_store.specs.Shelf.{Shelf};
 ghost use Rattle.page_store.specs.Shelves.{disk_shelf};
 ghost use Rattle.index_core.specs.Lending.{lent_inner, lent_kept, lent_shelf, KeptAgrees};
-ghost use Rattle.index_core.specs.Files.{StandsOn, IsLawfulFile, OnlyReads, nodes_on, pages_on};
+ghost use Rattle.index_core.specs.Files.{StandsOn, IsValidFile, OnlyReads, nodes_on, pages_on};
 ghost use Rattle.index_core.specs.Causes.{HasReaderCause};
 ghost use Rattle.index_core.specs.Answers.{HasSearched, IsFoundOn, HasRangeCause, HasReachCause, HasDrawn};
 
@@ -39,13 +39,13 @@ pub struct View<M: Metric> {
 }
 
 impl<M: Metric> Model for View<M> {
-    ghost use Rattle.index_core.specs.Files.{OpenFile, IsLawfulFile};
+    ghost use Rattle.index_core.specs.Files.{OpenFile, IsValidFile};
 
     ghost Value = { OpenFile M };
 
     ghost view = { λ o. record { head = o.head; live = o.live; metric = o.metric; kept = o.kept } };
 
-    ghost invariant = { λ o. IsLawfulFile (M.space o.metric).words (record {
+    ghost invariant = { λ o. IsValidFile (M.space o.metric).dimension (record {
       head = o.head;
       live = o.live;
       metric = o.metric;
@@ -57,14 +57,14 @@ impl<M: Metric> View<M> {
     /// Opens an index file whose points `metric` measures. Besides the faults of a file that is no index,
     /// `Head(HeadFault::Version)` comes where the file is of version 1, and `Head(HeadFault::Space)` where its points have another
     /// number of coordinates than the metric's. `Disk` comes where the disk failed.
-    /// Clauses: the answer (`stands`, `lawful`, `metric`, `none_kept`); what stays (`same`); the cost (`reads`); the cause of an error
+    /// Clauses: the answer (`stands`, `valid`, `metric`, `none_kept`); what stays (`same`); the cost (`reads`); the cause of an error
     /// (`cause`); faults of the devices (`later`, `no_fault`).
     pub fn open_read<D: Disk>(disk: &mut D, metric: M) -> Result<Self, OpenFault>
         ensures stands { IfOk result (λ view. StandsOn view (D.state disk.new)) }
-        ensures lawful { IfOk result (IsLawfulFile (M.space metric).words) }
+        ensures valid { IfOk result (IsValidFile (M.space metric).dimension) }
         ensures metric { IfOk result (λ view. view.metric ≡ metric) }
         ensures none_kept { IfOk result (λ view. view.kept ≡ None) }
-        ensures cause { IfErr result (HasReaderCause (M.space metric).words (D.state disk.old) (D.state disk.new)) }
+        ensures cause { IfErr result (HasReaderCause (M.space metric).dimension (D.state disk.old) (D.state disk.new)) }
         ensures same { IsUnchanged (D.state disk.old) (D.state disk.new) }
         ensures reads { (D.state disk.new).reads ≤ (D.state disk.old).reads + 3 }
         ensures later { (D.state disk.old).faults ≤ (D.state disk.new).faults }
@@ -74,7 +74,7 @@ impl<M: Metric> View<M> {
         if head.version != 2 {
             return Err(OpenFault::Head(HeadFault::Version));
         }
-        if metric.words() != usize::from(head.dim) {
+        if metric.dimension() != usize::from(head.dim) {
             return Err(OpenFault::Head(HeadFault::Space));
         }
         Ok(View {
@@ -86,8 +86,8 @@ impl<M: Metric> View<M> {
     }
 
     /// States what always holds of an opened file, for callers that hold a reference to one.
-    pub fn is_lawful(&self)
-        ensures { IsLawfulFile (M.space self.now.metric).words self.now }
+    pub fn is_valid(&self)
+        ensures { IsValidFile (M.space self.now.metric).dimension self.now }
     {
         let _head = &self.head;
     }
@@ -161,7 +161,7 @@ impl<M: Metric> View<M> {
         r: u64,
     ) -> Result<Found, IndexFault>
         requires stands { StandsOn self.old (D.state disk.old) }
-        requires point { IsTrue ((M.space self.old.metric).fits q.now) }
+        requires point { IsTrue ((M.space self.old.metric).is_point q.now) }
         ensures stands { StandsOn self.new (D.state disk.new) }
         ensures reads { OnlyReads self.old self.new (D.state disk.old) (D.state disk.new) }
         ensures no_fault { OnOk result ((D.state disk.new).faults ≡ (D.state disk.old).faults) }
@@ -191,7 +191,7 @@ impl<M: Metric> View<M> {
         k: u64,
     ) -> Result<Found, IndexFault>
         requires stands { StandsOn self.old (D.state disk.old) }
-        requires point { IsTrue ((M.space self.old.metric).fits q.now) }
+        requires point { IsTrue ((M.space self.old.metric).is_point q.now) }
         requires some { 1 ≤ k }
         ensures stands { StandsOn self.new (D.state disk.new) }
         ensures reads { OnlyReads self.old self.new (D.state disk.old) (D.state disk.new) }
@@ -199,7 +199,7 @@ impl<M: Metric> View<M> {
         ensures few { (D.state disk.new).reads ≤ (D.state disk.old).reads + self.old.live.pages }
         ensures searched { HasSearched (M.space self.old.metric) self.old (Nearest q.now k) (D.state disk.old) (D.state disk.new) result }
         // On any file: the records are a front of a walk with the least marks, and the answers are those that the records name.
-        ensures front { IfOk result (λ found. IsTrue (D.state disk.old).tells →
+        ensures front { IfOk result (λ found. IsTrue (D.state disk.old).is_known →
             IsFront (M.space self.old.metric) (nodes_on self.old (D.state disk.old)) self.old.live q.now k found) }
         ensures cause { IfErr result (HasReachCause self.old (D.state disk.old) (D.state disk.new)) }
     {

@@ -40,7 +40,7 @@ impl<M: Metric> View<M> {
     // Commits `placed` for the file, and settles the free list `free`: its first `used` pages are taken, and it has room for the
     // pages that are left. What is kept of pages that are written anew is dropped before the first write.
     // Clauses: what is asked of the caller (`stands`, `only`, `beside`, `within`, `room`, `placed`, `follows`); what a crash may leave
-    // (`moments`); what changes (`committed`); what stays (`tells`); the cost (`reads`); the cause of an error (`cause`).
+    // (`moments`); what changes (`committed`); what stays (`is_known`); the cost (`reads`); the cause of an error (`cause`).
     pub(crate) fn write<D: Disk>(
         &mut self,
         disk: &mut D,
@@ -49,18 +49,18 @@ impl<M: Metric> View<M> {
         placed: &Placed,
     ) -> Result<(), Failed>
         requires stands { StandsOn self.old (D.state disk.old) }
-        requires only { IsTrue (D.state disk.old).tells → LeavesOnly (D.state disk.old) (D.state disk.old).bytes }
-        requires beside { IsTrue (D.state disk.old).tells → AreSpare (nodes_on self.old (D.state disk.old)) self.old.live free.old }
+        requires only { IsTrue (D.state disk.old).is_known → LeavesOnly (D.state disk.old) (D.state disk.old).bytes }
+        requires beside { IsTrue (D.state disk.old).is_known → AreSpare (nodes_on self.old (D.state disk.old)) self.old.live free.old }
         requires within { AreWithin self.old.live.pages free.old }
         requires room { length placed.now.left ≤ free.old.spare }
         requires placed { IsPlacedOn self.old free.old used placed.now }
-        requires follows { IsTrue (D.state disk.old).tells → Follows (nodes_on self.old (D.state disk.old)) self.old.live placed.now }
-        ensures moments { IsTrue (D.state disk.old).tells →
+        requires follows { IsTrue (D.state disk.old).is_known → Follows (nodes_on self.old (D.state disk.old)) self.old.live placed.now }
+        ensures moments { IsTrue (D.state disk.old).is_known →
             EachImage (D.state disk.old) (D.state disk.new)
             (IsBeforeOrAfter self.old.head.dim self.old.live placed.now.next placed.now.staged (D.state disk.old)) }
         ensures committed { OnOk result (IsCommitted self.old self.new free.old free.new used placed.now (D.state disk.old)
             (D.state disk.new)) }
-        ensures tells { (D.state disk.new).tells ≡ (D.state disk.old).tells }
+        ensures is_known { (D.state disk.new).is_known ≡ (D.state disk.old).is_known }
         ensures reads { (D.state disk.new).reads ≤ (D.state disk.old).reads + 1 }
         ensures cause { HasCause (D.state disk.old).faults (D.state disk.new).faults result }
     {

@@ -9,8 +9,8 @@ use Rattle.tree_shape.specs.Fill.{most_for, least_for}
 use Rattle.tree_shape.specs.Plain.{tree_at, tree_of}
 use Rattle.tree_shape.proofs.Published.{three_at_least}
 use Rattle.tree_growth.specs.Insertion.{Rules, rules, rules_for, inserted}
-use Rattle.node_page.specs.Heads.{IsLawfulHead}
-use Rattle.node_page.specs.Nodes.{IsLawfulNode}
+use Rattle.node_page.specs.Heads.{IsValidHead}
+use Rattle.node_page.specs.Nodes.{IsValidNode}
 use Rattle.node_page.specs.declared.head.Head.{Head}
 use Rattle.page_store.specs.declared.staging.Placed.{Placed}
 use Rattle.page_store.specs.Shelf.{Shelf}
@@ -31,13 +31,13 @@ use Rattle.page_store.specs.declared.settling.RoomFault.TheVariants.{NoRoom as R
 use Rattle.page_store.specs.Placing.{HasRoomCause}
 use Rattle.page_store.specs.Numbers.{numbered}
 
-pub count_small : (head : Head) (count : ℕ) → IsLawfulHead head → count ≤ head.limit → count ≢ head.limit → count < 2 ^ 24
-count_small head count lawful most other = let l = limit_small head.limit lawful.limit in omega (arith, l, most, other)
+pub count_small : (head : Head) (count : ℕ) → IsValidHead head → count ≤ head.limit → count ≢ head.limit → count < 2 ^ 24
+count_small head count valid most other = let l = limit_small head.limit valid.limit in omega (arith, l, most, other)
 
 -- the rules of a plan whose nodes are filled as the space asks
-pub rules_same : (s : Space) (promote split most least dim : ℕ) → most ≡ most_for dim → least ≡ least_for dim → s.words ≡ dim → rules_for s promote split most least ≡ rules s promote split
-rules_same s promote split most least dim is_most is_least words =
-    ap (λ (m : ℕ). rules_for s promote split m least) (is_most ∙ ap most_for (sym words)) ∙ ap (λ (l : ℕ). rules_for s promote split (most_for s.words) l) (is_least ∙ ap least_for (sym words))
+pub rules_same : (s : Space) (promote split most least dim : ℕ) → most ≡ most_for dim → least ≡ least_for dim → s.dimension ≡ dim → rules_for s promote split most least ≡ rules s promote split
+rules_same s promote split most least dim is_most is_least dimension =
+    ap (λ (m : ℕ). rules_for s promote split m least) (is_most ∙ ap most_for (sym dimension)) ∙ ap (λ (l : ℕ). rules_for s promote split (most_for s.dimension) l) (is_least ∙ ap least_for (sym dimension))
 
 -- the page of a node that has grown is one that was given
 abbrev pub IsGiven : (ℕ → ℕ) → ℕ → Grew → Type 0
@@ -69,17 +69,17 @@ walks_height P shelf t left nodes root height high w = cases w.1 w.3
     cases (Two c d) roots = let e = roots.3 in let l = roots.0 in omega (arith, e, l)
 
 pub walks_writable : (P : Plan) (shelf : Shelf) (t : Live) (left : List ℕ) (nodes : List Node) (root height : ℕ) → P.most ≡ most_for shelf.dim → 1 ≤ P.least → 2 * P.least ≤ P.most → length P.object.point ≡ shelf.dim → Walks P shelf t left nodes root height →
-    AllByRecursion (IsLawfulNode shelf.dim) nodes
+    AllByRecursion (IsValidNode shelf.dim) nodes
 walks_writable P shelf t left nodes root height most some room long w =
     let below = descends_writable P shelf most some long t.height t.root None [] [] left w.0 w.1 w.2 tt in
     root_writable shelf.dim P.number t.height w.1 w.0 nodes root height (omega (arith, most, some, room)) w.3 below.1 (small_descends P shelf t.height t.root None [] [] left w.0 w.1 w.2) below.0
 
-pub walks_long : (P : Plan) (shelf : Shelf) → IsTrue shelf.tells → (t : Live) (left : List ℕ) (nodes : List Node) (root height : ℕ) → Walks P shelf t left nodes root height →
+pub walks_long : (P : Plan) (shelf : Shelf) → IsTrue shelf.is_known → (t : Live) (left : List ℕ) (nodes : List Node) (root height : ℕ) → Walks P shelf t left nodes root height →
     length nodes ≡ length (fresh_of (rules_of P) P.object (tree_of (nodes_of shelf.read) t))
-walks_long P shelf tells t left nodes root height w =
-    let deep = descends_long P shelf tells t.height t.root None [] [] left w.0 w.1 w.2 in
+walks_long P shelf is_known t left nodes root height w =
+    let deep = descends_long P shelf is_known t.height t.root None [] [] left w.0 w.1 w.2 in
     let top = root_long P.number t.height w.1 w.0 nodes root height w.3 (inserted (rules_of P) P.object t.height (tree_at (nodes_of shelf.read) t.height t.root))
-    (descends_parity P shelf tells t.height t.root None [] [] left w.0 w.1 w.2) in
+    (descends_parity P shelf is_known t.height t.root None [] [] left w.0 w.1 w.2) in
     let all = length-append (fresh (rules_of P) P.object t.height (tree_at (nodes_of shelf.read) t.height t.root)) (fresh_root t.height (inserted (rules_of P) P.object t.height (tree_at (nodes_of shelf.read) t.height t.root))) in
     omega (arith, deep, top, all)
 
@@ -89,24 +89,24 @@ pub room_cause : (P : Plan) (old new : Shelf) (R : Rules) (numbers : List ℕ) (
 room_cause P old new R numbers t left nodes root height pages needed same w cause = (
   cause.0,
   cause.2,
-  λ tells. (
-    ap (λ (Q : Rules). place_fault P.space Q old.read t P.object) (sym same) ∙ root_faultless P old tells t left w.0 nodes w.1 root height w.2 w.3,
-    cause.1 ∙ ap (λ (k : ℕ). k - length numbers) (walks_long P old tells t left nodes root height w ∙ ap (λ (Q : Rules). length (fresh_of Q P.object (tree_of (nodes_of old.read) t))) same),
+  λ is_known. (
+    ap (λ (Q : Rules). place_fault P.space Q old.read t P.object) (sym same) ∙ root_faultless P old is_known t left w.0 nodes w.1 root height w.2 w.3,
+    cause.1 ∙ ap (λ (k : ℕ). k - length numbers) (walks_long P old is_known t left nodes root height w ∙ ap (λ (Q : Rules). length (fresh_of Q P.object (tree_of (nodes_of old.read) t))) same),
   ),
 )
 
 -- what the walk made
-pub has_walked : (P : Plan) (shelf : Shelf) (R : Rules) → IsTrue shelf.tells → (t : Live) (nodes : List Node) (root height : ℕ) (placed : Placed) → rules_of P ≡ R → placed.staged ≡ numbered P.number 0 nodes → Walks P shelf t placed.left nodes root height →
+pub has_walked : (P : Plan) (shelf : Shelf) (R : Rules) → IsTrue shelf.is_known → (t : Live) (nodes : List Node) (root height : ℕ) (placed : Placed) → rules_of P ≡ R → placed.staged ≡ numbered P.number 0 nodes → Walks P shelf t placed.left nodes root height →
     HasWalked P.space R shelf.read t P.object placed
-has_walked P shelf R tells t nodes root height placed same staged w = record {
-  faultless = ap (λ (Q : Rules). place_fault P.space Q shelf.read t P.object) (sym same) ∙ root_faultless P shelf tells t placed.left w.0 nodes w.1 root height w.2 w.3;
-  many = ap length staged ∙ numbered_long P.number 0 nodes ∙ walks_long P shelf tells t placed.left nodes root height w ∙ ap (λ (Q : Rules). length (fresh_of Q P.object (tree_of (nodes_of shelf.read) t))) same;
-  left = descends_left P shelf tells t.height t.root None [] [] placed.left w.0 w.1 w.2;
+has_walked P shelf R is_known t nodes root height placed same staged w = record {
+  faultless = ap (λ (Q : Rules). place_fault P.space Q shelf.read t P.object) (sym same) ∙ root_faultless P shelf is_known t placed.left w.0 nodes w.1 root height w.2 w.3;
+  many = ap length staged ∙ numbered_long P.number 0 nodes ∙ walks_long P shelf is_known t placed.left nodes root height w ∙ ap (λ (Q : Rules). length (fresh_of Q P.object (tree_of (nodes_of shelf.read) t))) same;
+  left = descends_left P shelf is_known t.height t.root None [] [] placed.left w.0 w.1 w.2;
 }
 
 -- the numbers of entries that a node may have
-pub fill_room : (s : Space) (most least dim : ℕ) → IsSpace s → s.words ≡ dim → most ≡ most_for dim → least ≡ least_for dim → (1 ≤ least) × (2 * least ≤ most)
-fill_room s most least dim space words is_most is_least =
+pub fill_room : (s : Space) (most least dim : ℕ) → IsSpace s → s.dimension ≡ dim → most ≡ most_for dim → least ≡ least_for dim → (1 ≤ least) × (2 * least ≤ most)
+fill_room s most least dim space dimension is_most is_least =
     let few = space.few_words in
-    let three = three_at_least dim (omega (arith, few, words)) in
+    let three = three_at_least dim (omega (arith, few, dimension)) in
     (omega (arith, three, is_least), omega (arith, is_most, is_least))

@@ -15,7 +15,7 @@ use Rattle.tree_shape.specs.Plain.{Object}
 use Rattle.tree_growth.specs.Dealing.{Ball}
 use Rattle.tree_growth.specs.Insertion.{chosen}
 use Rattle.tree_growth.proofs.Published.{get_map}
-use Rattle.node_page.specs.Nodes.{IsLawfulNode}
+use Rattle.node_page.specs.Nodes.{IsValidNode}
 use Rattle.promote_split.specs.declared.promoting.Policy.{Policy}
 use Rattle.page_store.specs.declared.pages.PageFault.{PageFault}
 use Rattle.page_store.specs.declared.pages.PageFault.TheVariants.{Disk, Bad, Outside, Memory, Repeats, Level}
@@ -33,8 +33,8 @@ fault_here s read p (suc h) page f is = ap (inner_fault (walk_fault s read p h) 
 
 pub cause_here : (s : Space) (p : List ℕ) (h page : ℕ) (old new : Shelf) (f : PageFault) → HasPageCause old new page f → HasWalkCause old new (walk_fault s old.read p h page) f
 cause_here s p h page old new Disk cause = cause
-cause_here s p h page old new (Bad q f) cause = (cause.1, λ tells. fault_here s old.read p h page (Bad page f) (cause.3 tells) ∙ ap (λ (n : ℕ). Some (Bad n f)) (sym cause.0))
-cause_here s p h page old new (Outside q) cause = (ap (is_within old.pages) cause.0 ∙ cause.1, λ tells. fault_here s old.read p h page (Outside page) (cause.2 tells) ∙ ap (λ (n : ℕ). Some (Outside n)) (sym cause.0))
+cause_here s p h page old new (Bad q f) cause = (cause.1, λ is_known. fault_here s old.read p h page (Bad page f) (cause.3 is_known) ∙ ap (λ (n : ℕ). Some (Bad n f)) (sym cause.0))
+cause_here s p h page old new (Outside q) cause = (ap (is_within old.pages) cause.0 ∙ cause.1, λ is_known. fault_here s old.read p h page (Outside page) (cause.2 is_known) ∙ ap (λ (n : ℕ). Some (Outside n)) (sym cause.0))
 cause_here s p h page old new Memory cause = tt
 cause_here s p h page old new (Repeats q) cause = absurd cause
 cause_here s p h page old new (Level q) cause = absurd cause
@@ -75,21 +75,21 @@ fault_below s t read read' p h k page own node es fs ds place c ts rr hk oh inne
     at = ap (slice_index (map (λ (e : InnerEntry). e.child) es)) (sym (chose ∙ ap (λ (xs : List InnerEntry). chosen s (map inner_ball xs) p) de))
         ∙ child_page es place c (subst (λ (xs : List InnerEntry). place < length xs) de low) (isc ∙ ap (λ (xs : List InnerEntry). get_or xs place c) fe)
 
-pub cause_below : (old mid new : Shelf) (first first' : Option PageFault) (f : PageFault) → HoldsSame old mid → (IsTrue old.tells → first ≡ first') → HasWalkCause mid new first' f → HasWalkCause old new first f
+pub cause_below : (old mid new : Shelf) (first first' : Option PageFault) (f : PageFault) → HoldsSame old mid → (IsTrue old.is_known → first ≡ first') → HasWalkCause mid new first' f → HasWalkCause old new first f
 cause_below old mid new first first' Disk same is cause = let m = same.faults in omega (arith, cause, m)
-cause_below old mid new first first' (Bad q f) same is cause = (cause.0, λ tells. is tells ∙ cause.1 (subst IsTrue (sym same.tells) tells))
-cause_below old mid new first first' (Outside q) same is cause = (ap (λ (n : ℕ). is_within n q) (sym same.pages) ∙ cause.0, λ tells. is tells ∙ cause.1 (subst IsTrue (sym same.tells) tells))
+cause_below old mid new first first' (Bad q f) same is cause = (cause.0, λ is_known. is is_known ∙ cause.1 (subst IsTrue (sym same.is_known) is_known))
+cause_below old mid new first first' (Outside q) same is cause = (ap (λ (n : ℕ). is_within n q) (sym same.pages) ∙ cause.0, λ is_known. is is_known ∙ cause.1 (subst IsTrue (sym same.is_known) is_known))
 cause_below old mid new first first' Memory same is cause = tt
 cause_below old mid new first first' (Repeats q) same is cause = cause
-cause_below old mid new first first' (Level q) same is cause = λ tells. is tells ∙ cause (subst IsTrue (sym same.tells) tells)
+cause_below old mid new first first' (Level q) same is cause = λ is_known. is is_known ∙ cause (subst IsTrue (sym same.is_known) is_known)
 
 -- no radius and no distance of a node that was read is above the bound
-pub read_near : (dim own : ℕ) (node : Node) (es fs : List InnerEntry) → IsLawfulNode dim node → node ≡ Inner own es → fs ≡ es → AllByRecursion IsNear fs
-read_near dim own node es fs lawful inner is =
-    rw is (all_weaker (λ (e : InnerEntry). (length e.point ≡ dim) × (e.radius ≤ bound) × (e.parent ≤ bound)) IsNear es (λ e h. (h.1, h.2)) (subst (IsLawfulNode dim) inner lawful).4)
+pub read_near : (dim own : ℕ) (node : Node) (es fs : List InnerEntry) → IsValidNode dim node → node ≡ Inner own es → fs ≡ es → AllByRecursion IsNear fs
+read_near dim own node es fs valid inner is =
+    rw is (all_weaker (λ (e : InnerEntry). (length e.point ≡ dim) × (e.radius ≤ bound) × (e.parent ≤ bound)) IsNear es (λ e h. (h.1, h.2)) (subst (IsValidNode dim) inner valid).4)
 
-pub level_above : (dim own h : ℕ) (node : Node) (es : List InnerEntry) → IsLawfulNode dim node → node ≡ Inner own es → own ≡ h → h ≡ suc (h - 1)
-level_above dim own h node es lawful inner same = let l : 1 ≤ own = (subst (IsLawfulNode dim) inner lawful).0 in omega arith
+pub level_above : (dim own h : ℕ) (node : Node) (es : List InnerEntry) → IsValidNode dim node → node ≡ Inner own es → own ≡ h → h ≡ suc (h - 1)
+level_above dim own h node es valid inner same = let l : 1 ≤ own = (subst (IsValidNode dim) inner valid).0 in omega arith
 
 pub small_staged : {E : Type 0} (P : Plan) (ball : E → Ball) (set : E → ℕ → E) (make : List E → Node) (es : List E) (old new : List Node) (g : Grew) → IsStaged P ball set make es old new g → IsSmall g
 small_staged P ball set make es old new g staged = elim staged [ inl w ↦ rw w.grew tt | inr h ↦ rw h.1.grew h.1.halves.within ]
@@ -101,8 +101,8 @@ small_descends P shelf (suc h) page above left0 old left1 new g d = small_staged
 pub node_same : (a b : Shelf) (page : ℕ) (node : Node) → HoldsSame a b → IsNodeOf b page node → IsNodeOf a page node
 node_same a b page node same is = record {
   within = subst (λ (n : ℕ). IsWithin n page) same.pages is.within;
-  lawful = subst (λ (d : ℕ). IsLawfulNode d node) same.dim is.lawful;
-  told = λ tells. ap (λ (r : Read). r page) (sym same.read) ∙ is.told (subst IsTrue (sym same.tells) tells);
+  valid = subst (λ (d : ℕ). IsValidNode d node) same.dim is.valid;
+  told = λ is_known. ap (λ (r : Read). r page) (sym same.read) ∙ is.told (subst IsTrue (sym same.is_known) is_known);
 }
 
 pub descends_same : (P : Plan) (a b : Shelf) (h page : ℕ) (above : Option (List ℕ)) (left0 : List ℕ) (old : List Node) (left1 : List ℕ) (new : List Node) (g : Grew) → HoldsSame a b →

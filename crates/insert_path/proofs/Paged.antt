@@ -111,15 +111,15 @@ regrown_pages old new h n far par g (suc i) (e ∷ es) z low same =
     let s = ap (times n) (same e (inl refl)) in omega (arith, ih, a, b, s)
 
 -- each page of the new subtree is one of the old one that was not left, or a staged one
-pub descends_pages : (P : Plan) (shelf : Shelf) (new : Nodes) → IsTrue shelf.tells → (h page : ℕ) (above : Option (List ℕ)) (l0 : List ℕ) (old : List Node) (l1 : List ℕ) (nodes : List Node) (g : Grew) →
+pub descends_pages : (P : Plan) (shelf : Shelf) (new : Nodes) → IsTrue shelf.is_known → (h page : ℕ) (above : Option (List ℕ)) (l0 : List ℕ) (old : List Node) (l1 : List ℕ) (nodes : List Node) (g : Grew) →
     Descends P shelf h page above l0 old l1 nodes g → HoldsFrom new P.number 0 nodes → Agree (nodes_of shelf.read) new (pages_at (nodes_of shelf.read) h page) → (n : ℕ) →
     times n (grown_pages new h g) + times n l1 + times n (pages_from P.number 0 old) ≡ times n (pages_at (nodes_of shelf.read) h page) + times n l0 + times n (pages_from P.number 0 nodes)
-descends_pages P shelf new tells zero page above l0 old l1 nodes g d holds agree n =
+descends_pages P shelf new is_known zero page above l0 old l1 nodes g d holds agree n =
     let staged = leaf_pages P (d.0 ++ new_entry P above ∷ []) new old nodes g d.3 holds n in
     let left = ap (times n) d.2 ∙ times-append n l0 (page ∷ []) in omega (arith, staged, left)
-descends_pages P shelf new tells (suc h) page above l0 old l1 nodes g d holds agree n =
-    let is : nodes_of shelf.read page ≡ Some (Inner (suc h) d.0) = told_node shelf page (Inner (suc h) d.0) (d.4.told tells) in
-    let below = descends_pages P shelf new tells h d.1.child (Some d.1.point) (l0 ++ page ∷ []) old l1 d.2 d.3 d.7 (holds_staged P inner_ball inner_with (Inner (suc h)) _ new d.2 nodes g d.8 holds)
+descends_pages P shelf new is_known (suc h) page above l0 old l1 nodes g d holds agree n =
+    let is : nodes_of shelf.read page ≡ Some (Inner (suc h) d.0) = told_node shelf page (Inner (suc h) d.0) (d.4.told is_known) in
+    let below = descends_pages P shelf new is_known h d.1.child (Some d.1.point) (l0 ++ page ∷ []) old l1 d.2 d.3 d.7 (holds_staged P inner_ball inner_with (Inner (suc h)) _ new d.2 nodes g d.8 holds)
     (agree_below (nodes_of shelf.read) new h page (suc h) d.0 d.1 is agree (chosen_in d.0 (chosen P.space (map inner_ball d.0) P.object.point) d.1 d.5 d.6)) n in
     let staged = inner_pages P (regrown (P.space.dist P.object.point) (parent_distance P.space above) (chosen P.space (map inner_ball d.0) P.object.point) d.3 d.0) new h (suc h) d.2 nodes g d.8 holds n in
     let grown = regrown_pages (nodes_of shelf.read) new h n (P.space.dist P.object.point) (parent_distance P.space above) d.3 (chosen P.space (map inner_ball d.0) P.object.point) d.0 d.1 d.5
@@ -130,12 +130,12 @@ descends_pages P shelf new tells (suc h) page above l0 old l1 nodes g d holds ag
     omega (arith, below, staged, grown, mine, here, l)
 
 -- the pages that are left are pages of the old subtree
-pub descends_in : (P : Plan) (shelf : Shelf) → IsTrue shelf.tells → (h page : ℕ) (above : Option (List ℕ)) (l0 : List ℕ) (old : List Node) (l1 : List ℕ) (nodes : List Node) (g : Grew) →
+pub descends_in : (P : Plan) (shelf : Shelf) → IsTrue shelf.is_known → (h page : ℕ) (above : Option (List ℕ)) (l0 : List ℕ) (old : List Node) (l1 : List ℕ) (nodes : List Node) (g : Grew) →
     Descends P shelf h page above l0 old l1 nodes g → (n : ℕ) → IsIn n l1 → IsIn n l0 ⊎ IsIn n (pages_at (nodes_of shelf.read) h page)
-descends_in P shelf tells zero page above l0 old l1 nodes g d n k = in-append l0 (page ∷ []) n (subst (IsIn n) d.2 k)
-descends_in P shelf tells (suc h) page above l0 old l1 nodes g d n k =
-    elim (descends_in P shelf tells h d.1.child (Some d.1.point) (l0 ++ page ∷ []) old l1 d.2 d.3 d.7 n k) [
+descends_in P shelf is_known zero page above l0 old l1 nodes g d n k = in-append l0 (page ∷ []) n (subst (IsIn n) d.2 k)
+descends_in P shelf is_known (suc h) page above l0 old l1 nodes g d n k =
+    elim (descends_in P shelf is_known h d.1.child (Some d.1.point) (l0 ++ page ∷ []) old l1 d.2 d.3 d.7 n k) [
       | inl a ↦ elim (in-append l0 (page ∷ []) n a) [ inl b ↦ inl b | inr b ↦ elim b [ inl e ↦ inr (inl e) | inr w ↦ absurd w ] ]
       | inr b ↦ inr (inr (in-flat_map (below_in (nodes_of shelf.read) h) (inner_entries (nodes_of shelf.read page)) d.1 n
-          (subst (λ (o : Option Node). IsIn d.1 (inner_entries o)) (sym (told_node shelf page (Inner (suc h) d.0) (d.4.told tells))) (chosen_in d.0 (chosen P.space (map inner_ball d.0) P.object.point) d.1 d.5 d.6)) b))
+          (subst (λ (o : Option Node). IsIn d.1 (inner_entries o)) (sym (told_node shelf page (Inner (suc h) d.0) (d.4.told is_known))) (chosen_in d.0 (chosen P.space (map inner_ball d.0) P.object.point) d.1 d.5 d.6)) b))
     ]

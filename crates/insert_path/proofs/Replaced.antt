@@ -44,15 +44,15 @@ descends_within P shelf zero page above l0 old l1 nodes g d all = subst (AllByRe
 descends_within P shelf (suc h) page above l0 old l1 nodes g d all =
     descends_within P shelf h d.1.child (Some d.1.point) (l0 ++ page ∷ []) old l1 d.2 d.3 d.7 (all_append (IsWithin shelf.pages) l0 (page ∷ []) all (d.4.within, tt))
 
-module _ (P : Plan) (shelf : Shelf) (tells : IsTrue shelf.tells) where
+module _ (P : Plan) (shelf : Shelf) (is_known : IsTrue shelf.is_known) where
   abbrev nodes_now : Nodes
   nodes_now = nodes_of shelf.read
 
   is_leaf : (h page : ℕ) (above : Option (List ℕ)) (l0 : List ℕ) (old : List Node) (l1 : List ℕ) (nodes : List Node) (g : Grew) (d : Descends P shelf zero page above l0 old l1 nodes g) → nodes_now page ≡ Some (Leaf d.0)
-  is_leaf h page above l0 old l1 nodes g d = told_node shelf page (Leaf d.0) (d.1.told tells)
+  is_leaf h page above l0 old l1 nodes g d = told_node shelf page (Leaf d.0) (d.1.told is_known)
 
   is_inner : (h page : ℕ) (above : Option (List ℕ)) (l0 : List ℕ) (old : List Node) (l1 : List ℕ) (nodes : List Node) (g : Grew) (d : Descends P shelf (suc h) page above l0 old l1 nodes g) → nodes_now page ≡ Some (Inner (suc h) d.0)
-  is_inner h page above l0 old l1 nodes g d = told_node shelf page (Inner (suc h) d.0) (d.4.told tells)
+  is_inner h page above l0 old l1 nodes g d = told_node shelf page (Inner (suc h) d.0) (d.4.told is_known)
 
   -- they are reached
   pub descends_reached : (root h page : ℕ) (above : Option (List ℕ)) (l0 : List ℕ) (old : List Node) (l1 : List ℕ) (nodes : List Node) (g : Grew) → Descends P shelf h page above l0 old l1 nodes g →
@@ -173,26 +173,26 @@ named_more nodes l0 page k es is =
     ap (times k) (flat_map-append (in_node nodes) l0 (page ∷ [])) ∙ times-append k (named_in nodes l0) (in_node nodes page ++ [])
     ∙ (let a = times-append k (in_node nodes page) [] in let e = ap (λ (xs : List InnerEntry). times k (map (λ e. e.child) xs)) is ∙ ap (times k) (children_are es) in omega (arith, a, e))
 
-pub descends_names : (P : Plan) (shelf : Shelf) → IsTrue shelf.tells → (h page : ℕ) (above : Option (List ℕ)) (l0 : List ℕ) (old : List Node) (l1 : List ℕ) (nodes : List Node) (g : Grew) → Descends P shelf h page above l0 old l1 nodes g → (k : ℕ) →
+pub descends_names : (P : Plan) (shelf : Shelf) → IsTrue shelf.is_known → (h page : ℕ) (above : Option (List ℕ)) (l0 : List ℕ) (old : List Node) (l1 : List ℕ) (nodes : List Node) (g : Grew) → Descends P shelf h page above l0 old l1 nodes g → (k : ℕ) →
     times k (tops g) + times k (names_of nodes) + times k l1 + times k (named_in (nodes_of shelf.read) l0) + times k (pages_from P.number 0 old)
     ≡ times k (page ∷ []) + times k (names_of old) + times k l0 + times k (named_in (nodes_of shelf.read) l1) + times k (pages_from P.number 0 nodes)
-descends_names P shelf tells zero page above l0 old l1 nodes g d k =
+descends_names P shelf is_known zero page above l0 old l1 nodes g d k =
     let staged = staged_names P leaf_ball leaf_with Leaf (d.0 ++ new_entry P above ∷ []) no_pages old nodes g (λ e d. refl) (λ xs. sym (none_flat xs)) d.3 k in
     let a = staged.0 in
     let b = staged.1 in
     let none = ap (times k) (none_flat (d.0 ++ new_entry P above ∷ [])) in
     let left = ap (times k) d.2 ∙ times-append k l0 (page ∷ []) in
-    let named = ap (λ (l : List ℕ). times k (named_in (nodes_of shelf.read) l)) d.2 ∙ named_more (nodes_of shelf.read) l0 page k [] (ap inner_entries (told_node shelf page (Leaf d.0) (d.1.told tells))) in
+    let named = ap (λ (l : List ℕ). times k (named_in (nodes_of shelf.read) l)) d.2 ∙ named_more (nodes_of shelf.read) l0 page k [] (ap inner_entries (told_node shelf page (Leaf d.0) (d.1.told is_known))) in
     omega (arith, a, b, none, left, named)
-descends_names P shelf tells (suc h) page above l0 old l1 nodes g d k =
-    let below = descends_names P shelf tells h d.1.child (Some d.1.point) (l0 ++ page ∷ []) old l1 d.2 d.3 d.7 k in
+descends_names P shelf is_known (suc h) page above l0 old l1 nodes g d k =
+    let below = descends_names P shelf is_known h d.1.child (Some d.1.point) (l0 ++ page ∷ []) old l1 d.2 d.3 d.7 k in
     let staged = staged_names P inner_ball inner_with (Inner (suc h)) (regrown (P.space.dist P.object.point) (parent_distance P.space above) (chosen P.space (map inner_ball d.0) P.object.point) d.3 d.0) only_child d.2 nodes g (λ e d. refl) (λ xs. children_are xs) d.8 k in
     let a = staged.0 in
     let b = staged.1 in
     let grown = regrown_names k (P.space.dist P.object.point) (parent_distance P.space above) d.3 (chosen P.space (map inner_ball d.0) P.object.point) d.0 d.1 d.5 in
     let mine = ap (λ (e : InnerEntry). times k (e.child ∷ [])) d.6 in
     let left = times-append k l0 (page ∷ []) in
-    let named = named_more (nodes_of shelf.read) l0 page k d.0 (ap inner_entries (told_node shelf page (Inner (suc h) d.0) (d.4.told tells))) in
+    let named = named_more (nodes_of shelf.read) l0 page k d.0 (ap inner_entries (told_node shelf page (Inner (suc h) d.0) (d.4.told is_known))) in
     omega (arith, below, a, b, grown, mine, left, named)
 
 -- a new root stands on a new page and names the halves
@@ -214,17 +214,17 @@ root_names number h k (Two c d) old new root height roots =
 pub walks_within : (P : Plan) (shelf : Shelf) (t : Live) (left : List ℕ) (nodes : List Node) (root height : ℕ) → Walks P shelf t left nodes root height → AllByRecursion (IsWithin shelf.pages) left
 walks_within P shelf t left nodes root height w = descends_within P shelf t.height t.root None [] [] left w.0 w.1 w.2 tt
 
-pub takes_place : (P : Plan) (shelf : Shelf) → IsTrue shelf.tells → (t : Live) (nodes : List Node) (root height : ℕ) (placed : Placed) → Walks P shelf t placed.left nodes root height →
+pub takes_place : (P : Plan) (shelf : Shelf) → IsTrue shelf.is_known → (t : Live) (nodes : List Node) (root height : ℕ) (placed : Placed) → Walks P shelf t placed.left nodes root height →
     placed.staged ≡ numbered P.number 0 nodes → placed.next.root ≡ root → TakesPlace (nodes_of shelf.read) t placed
-takes_place P shelf tells t nodes root height placed w staged same = record {
-  left = descends_reached P shelf tells t.root t.height t.root None [] [] placed.left w.0 w.1 w.2 at_root tt;
-  once = λ page. elim (descends_once P shelf tells t.height t.root None [] [] placed.left w.0 w.1 w.2 page) [ inl e ↦ omega (arith, e) | inr more ↦ (let e = more.0 in omega (arith, e)) ];
+takes_place P shelf is_known t nodes root height placed w staged same = record {
+  left = descends_reached P shelf is_known t.root t.height t.root None [] [] placed.left w.0 w.1 w.2 at_root tt;
+  once = λ page. elim (descends_once P shelf is_known t.height t.root None [] [] placed.left w.0 w.1 w.2 page) [ inl e ↦ omega (arith, e) | inr more ↦ (let e = more.0 in omega (arith, e)) ];
   root =
       let given = walks_given P shelf t placed.left nodes root height w in
       subst (IsIn placed.next.root) (sym pages)
       (subst (λ (r : ℕ). IsIn r (pages_from P.number 0 nodes)) (sym (same ∙ given.2)) (given_in P.number 0 given.0 nodes (omega arith) (let l = given.1 in omega (arith, l))));
   names = λ page.
-      let d = descends_names P shelf tells t.height t.root None [] [] placed.left w.0 w.1 w.2 page in
+      let d = descends_names P shelf is_known t.height t.root None [] [] placed.left w.0 w.1 w.2 page in
       let r = root_names P.number t.height page w.1 w.0 nodes root height w.3 in
       let n = ap (λ (ss : List StagedNode). times page (named_by ss)) staged ∙ ap (times page) (named_numbered P.number 0 nodes) in
       let p = ap (times page) pages in

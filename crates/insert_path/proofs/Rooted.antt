@@ -14,7 +14,7 @@ use Rattle.tree_shape.specs.Tree.{Nodes, inner_entries, pages_at, times}
 use Rattle.tree_shape.specs.Plain.{Plain, Tall, Branch, tree_at}
 use Rattle.tree_growth.specs.Insertion.{Grown, One as Whole, Two as Halves2, inserted, new_root}
 use Rattle.tree_shape.proofs.Published.{times-append}
-use Rattle.node_page.specs.Nodes.{IsLawfulNode}
+use Rattle.node_page.specs.Nodes.{IsValidNode}
 use Rattle.page_store.specs.declared.pages.PageFault.{PageFault}
 use Rattle.page_store.specs.Reading.{nodes_of}
 use Rattle.page_store.specs.Shelf.{Shelf}
@@ -40,10 +40,10 @@ use Rattle.insert_path.proofs.Writable.{IsLong}
 pub root_cause : (P : Plan) (old new : Shelf) (t : Live) (l0 l1 : List ℕ) (before nodes : List Node) (g : Grew) (f : PlaceFault) → Descends P old t.height t.root None l0 before l1 nodes g → HasRootCause t g f →
     HasTreeCause old new (place_fault P.space (rules_of P) old.read t P.object) f
 root_cause P old new t l0 l1 before nodes g (Page fault) d cause =
-    rw cause.0 (λ tells.
+    rw cause.0 (λ is_known.
     let high : (t.height == 14) ≡ true = let e = cause.1 in grind (arith, nat_tests) in
-    let split : is_split (inserted (rules_of P) P.object t.height (tree_at (nodes_of old.read) t.height t.root)) ≡ true = sym (descends_parity P old tells t.height t.root None l0 before l1 nodes g d) ∙ cause.2 in
-    ap (λ (o : Option PageFault). or_level o ((t.height == 14) && is_split (inserted (rules_of P) P.object t.height (tree_at (nodes_of old.read) t.height t.root))) t.root) (descends_faultless P old tells t.height t.root None l0 before l1 nodes g d)
+    let split : is_split (inserted (rules_of P) P.object t.height (tree_at (nodes_of old.read) t.height t.root)) ≡ true = sym (descends_parity P old is_known t.height t.root None l0 before l1 nodes g d) ∙ cause.2 in
+    ap (λ (o : Option PageFault). or_level o ((t.height == 14) && is_split (inserted (rules_of P) P.object t.height (tree_at (nodes_of old.read) t.height t.root))) t.root) (descends_faultless P old is_known t.height t.root None l0 before l1 nodes g d)
     ∙ rw (high, split) refl)
 root_cause P old new t l0 l1 before nodes g Full d cause = cause
 root_cause P old new t l0 l1 before nodes g (NoRoom pages needed) d cause = cause
@@ -60,11 +60,11 @@ walk_cause old new first (Repeats page) cause = cause
 walk_cause old new first (Level page) cause = cause
 
 -- a new root comes only below height 14, so there is no fault
-pub root_faultless : (P : Plan) (old : Shelf) → IsTrue old.tells → (t : Live) (l1 : List ℕ) (mid nodes : List Node) (g : Grew) (root height : ℕ) → Descends P old t.height t.root None [] [] l1 mid g → Roots P.number t.height g mid nodes root height →
+pub root_faultless : (P : Plan) (old : Shelf) → IsTrue old.is_known → (t : Live) (l1 : List ℕ) (mid nodes : List Node) (g : Grew) (root height : ℕ) → Descends P old t.height t.root None [] [] l1 mid g → Roots P.number t.height g mid nodes root height →
     place_fault P.space (rules_of P) old.read t P.object ≡ None
-root_faultless P old tells t l1 mid nodes g root height d roots =
-    ap (λ (o : Option PageFault). or_level o ((t.height == 14) && is_split (inserted (rules_of P) P.object t.height (tree_at (nodes_of old.read) t.height t.root))) t.root) (descends_faultless P old tells t.height t.root None [] [] l1 mid g d)
-    ∙ cases g (descends_parity P old tells t.height t.root None [] [] l1 mid g d) roots
+root_faultless P old is_known t l1 mid nodes g root height d roots =
+    ap (λ (o : Option PageFault). or_level o ((t.height == 14) && is_split (inserted (rules_of P) P.object t.height (tree_at (nodes_of old.read) t.height t.root))) t.root) (descends_faultless P old is_known t.height t.root None [] [] l1 mid g d)
+    ∙ cases g (descends_parity P old is_known t.height t.root None [] [] l1 mid g d) roots
   where
     both : (a b : Bool) → (a && b) ≡ false → or_level None (a && b) t.root ≡ None
     both a b neither = rw neither refl
@@ -154,9 +154,9 @@ root_long number h (Two c d) old new root height roots t same = cases t same
     cases (Halves2 a b) same = ap length roots.1 ∙ length-append old (Inner (h + 1) (root_entry c ∷ root_entry d ∷ []) ∷ [])
 
 -- the new root can be written
-pub root_writable : (dim : ℕ) (number : ℕ → ℕ) (h : ℕ) (g : Grew) (old new : List Node) (root height : ℕ) → 2 ≤ most_for dim → Roots number h g old new root height → IsLong dim g → IsSmall g → AllByRecursion (IsLawfulNode dim) old → AllByRecursion (IsLawfulNode dim) new
-root_writable dim number h (One page) old new root height two roots long small all = subst (AllByRecursion (IsLawfulNode dim)) (sym roots.0) all
+pub root_writable : (dim : ℕ) (number : ℕ → ℕ) (h : ℕ) (g : Grew) (old new : List Node) (root height : ℕ) → 2 ≤ most_for dim → Roots number h g old new root height → IsLong dim g → IsSmall g → AllByRecursion (IsValidNode dim) old → AllByRecursion (IsValidNode dim) new
+root_writable dim number h (One page) old new root height two roots long small all = subst (AllByRecursion (IsValidNode dim)) (sym roots.0) all
 root_writable dim number h (Two c d) old new root height two roots long small all =
-    subst (AllByRecursion (IsLawfulNode dim)) (sym roots.1)
-    (all_append (IsLawfulNode dim) old (Inner (h + 1) (root_entry c ∷ root_entry d ∷ []) ∷ []) all
+    subst (AllByRecursion (IsValidNode dim)) (sym roots.1)
+    (all_append (IsValidNode dim) old (Inner (h + 1) (root_entry c ∷ root_entry d ∷ []) ∷ []) all
     (((let low = roots.0 in omega arith), (let low = roots.0 in omega arith), (omega arith), two, (((long.0, small.0, omega arith), ((long.1, small.1, omega arith), tt)))), tt))

@@ -36,8 +36,8 @@ stored_of_sound s nodes zero least above page sound = (sound.0, sound.1, all_wea
 stored_of_sound s nodes (suc h) least above page sound = (
   sound.0,
   sound.1,
-  all_weaker (λ (e : InnerEntry). IsSoundEntry s above (objects_at nodes h e.child) e × IsSoundAt s nodes h (least_for s.words) (Some e.point) e.child) (IsStoredEntry s nodes h above) sound.0
-      (λ e k. (k.0.parent_is, stored_of_sound s nodes h (least_for s.words) (Some e.point) e.child k.1)) sound.3,
+  all_weaker (λ (e : InnerEntry). IsSoundEntry s above (objects_at nodes h e.child) e × IsSoundAt s nodes h (least_for s.dimension) (Some e.point) e.child) (IsStoredEntry s nodes h above) sound.0
+      (λ e k. (k.0.parent_is, stored_of_sound s nodes h (least_for s.dimension) (Some e.point) e.child k.1)) sound.3,
 )
 
 -- a subtree depends on its own pages alone
@@ -106,19 +106,19 @@ regrown_stored s file h above far zero (Two c d) (e ∷ es) z low all grown =
 regrown_stored s file h above far (suc i) g (e ∷ es) z low all grown = (all.0, regrown_stored s file h above far i g es z (omega arith) all.1 grown)
 
 -- what has grown is stored as the old node was
-pub descends_stored : (P : Plan) (shelf : Shelf) (new : Nodes) → IsTrue shelf.tells → (h page : ℕ) (above : Option (List ℕ)) (l0 : List ℕ) (old : List Node) (l1 : List ℕ) (nodes : List Node) (g : Grew) →
+pub descends_stored : (P : Plan) (shelf : Shelf) (new : Nodes) → IsTrue shelf.is_known → (h page : ℕ) (above : Option (List ℕ)) (l0 : List ℕ) (old : List Node) (l1 : List ℕ) (nodes : List Node) (g : Grew) →
     Descends P shelf h page above l0 old l1 nodes g → HoldsFrom new P.number 0 nodes → Agree (nodes_of shelf.read) new (pages_at (nodes_of shelf.read) h page) →
     IsStoredAt P.space (nodes_of shelf.read) h above page → GrownStored P.space new h above g
-descends_stored P shelf new tells zero page above l0 old l1 nodes g d holds agree stored =
-    let same : stored.0 ≡ d.0 = ap leaf_entries (sym stored.1 ∙ told_node shelf page (Leaf d.0) (d.1.told tells)) in
+descends_stored P shelf new is_known zero page above l0 old l1 nodes g d holds agree stored =
+    let same : stored.0 ≡ d.0 = ap leaf_entries (sym stored.1 ∙ told_node shelf page (Leaf d.0) (d.1.told is_known)) in
     leaf_stored P new above (d.0 ++ new_entry P above ∷ []) old nodes g d.3 holds
     (all_append (λ (e : LeafEntry). e.parent ≡ parent_distance P.space above e.point) d.0 (new_entry P above ∷ []) (subst (AllByRecursion (λ (e : LeafEntry). e.parent ≡ parent_distance P.space above e.point)) same stored.2) (refl, tt))
-descends_stored P shelf new tells (suc h) page above l0 old l1 nodes g d holds agree stored =
-    let is : nodes_of shelf.read page ≡ Some (Inner (suc h) d.0) = told_node shelf page (Inner (suc h) d.0) (d.4.told tells) in
+descends_stored P shelf new is_known (suc h) page above l0 old l1 nodes g d holds agree stored =
+    let is : nodes_of shelf.read page ≡ Some (Inner (suc h) d.0) = told_node shelf page (Inner (suc h) d.0) (d.4.told is_known) in
     let same : stored.0 ≡ d.0 = ap inner_entries (sym stored.1 ∙ is) in
     let before : AllByRecursion (IsStoredEntry P.space (nodes_of shelf.read) h above) d.0 = subst (AllByRecursion (IsStoredEntry P.space (nodes_of shelf.read) h above)) same stored.2 in
     let mine = chosen_in d.0 (chosen P.space (map inner_ball d.0) P.object.point) d.1 d.5 d.6 in
-    let deep = descends_stored P shelf new tells h d.1.child (Some d.1.point) (l0 ++ page ∷ []) old l1 d.2 d.3 d.7 (holds_staged P inner_ball inner_with (Inner (suc h)) _ new d.2 nodes g d.8 holds)
+    let deep = descends_stored P shelf new is_known h d.1.child (Some d.1.point) (l0 ++ page ∷ []) old l1 d.2 d.3 d.7 (holds_staged P inner_ball inner_with (Inner (suc h)) _ new d.2 nodes g d.8 holds)
     (agree_below (nodes_of shelf.read) new h page (suc h) d.0 d.1 is agree mine)
     (all_in (IsStoredEntry P.space (nodes_of shelf.read) h above) d.0 d.1 before mine).1 in
     inner_stored P new h above (regrown (P.space.dist P.object.point) (parent_distance P.space above) (chosen P.space (map inner_ball d.0) P.object.point) d.3 d.0) d.2 nodes g d.8 holds

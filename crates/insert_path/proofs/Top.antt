@@ -31,7 +31,7 @@ use Rattle.insert_path.proofs.Listing.{ids_more, placed_all, old_one, new_one, p
 use Rattle.page_store.specs.Placing.{live_pages, staged_tree, IsOver}
 use Rattle.page_store.specs.Numbers.{numbered}
 
-module _ (P : Plan) (shelf : Shelf) (tells : IsTrue shelf.tells) (t : Live) (left : List ℕ) (nodes : List Node) (root height : ℕ) (walks : Walks P shelf t left nodes root height) (new : Nodes)
+module _ (P : Plan) (shelf : Shelf) (is_known : IsTrue shelf.is_known) (t : Live) (left : List ℕ) (nodes : List Node) (root height : ℕ) (walks : Walks P shelf t left nodes root height) (new : Nodes)
     (holds : HoldsFrom new P.number 0 nodes) (agree : Agree (nodes_of shelf.read) new (live_pages (nodes_of shelf.read) t)) where
   pub mid_holds : HoldsFrom new P.number 0 walks.0
   mid_holds = root_holds P.number t.height new walks.1 walks.0 nodes root height walks.3 holds
@@ -39,27 +39,27 @@ module _ (P : Plan) (shelf : Shelf) (tells : IsTrue shelf.tells) (t : Live) (lef
   -- the new tree
   pub new_tree : tall new root height ≡ placed_by (rules_of P) P.object (tree_of (nodes_of shelf.read) t)
   new_tree = root_tree P.number t.height new walks.1 walks.0 nodes root height walks.3 holds
-      ∙ ap (new_root t.height) (descends_shown P shelf new tells t.height t.root None [] [] left walks.0 walks.1 walks.2 mid_holds agree)
+      ∙ ap (new_root t.height) (descends_shown P shelf new is_known t.height t.root None [] [] left walks.0 walks.1 walks.2 mid_holds agree)
 
   pub new_fresh : trees_from new P.number 0 nodes ≡ fresh_of (rules_of P) P.object (tree_of (nodes_of shelf.read) t)
   new_fresh = root_fresh P.number t.height new walks.1 walks.0 nodes root height walks.3 holds
-      ∙ ap (λ (r : List Tall). r ++ fresh_root t.height (grown_tree new t.height walks.1)) (descends_fresh P shelf new tells t.height t.root None [] [] left walks.0 walks.1 walks.2 mid_holds agree)
+      ∙ ap (λ (r : List Tall). r ++ fresh_root t.height (grown_tree new t.height walks.1)) (descends_fresh P shelf new is_known t.height t.root None [] [] left walks.0 walks.1 walks.2 mid_holds agree)
       ∙ ap (λ (g : Grown (Plain t.height)). fresh (rules_of P) P.object t.height (tree_at (nodes_of shelf.read) t.height t.root) ++ fresh_root t.height g)
-      (descends_shown P shelf new tells t.height t.root None [] [] left walks.0 walks.1 walks.2 mid_holds agree)
+      (descends_shown P shelf new is_known t.height t.root None [] [] left walks.0 walks.1 walks.2 mid_holds agree)
 
   pub new_stored : IsStoredAt P.space (nodes_of shelf.read) t.height None t.root → IsStoredAt P.space new height None root
   new_stored stored = root_stored P.space P.number t.height new walks.1 walks.0 nodes root height walks.3 holds
-      (descends_stored P shelf new tells t.height t.root None [] [] left walks.0 walks.1 walks.2 mid_holds agree stored)
+      (descends_stored P shelf new is_known t.height t.root None [] [] left walks.0 walks.1 walks.2 mid_holds agree stored)
 
   pub new_pages : (n : ℕ) → times n (pages_at new height root) + times n left ≡ times n (live_pages (nodes_of shelf.read) t) + times n (pages_from P.number 0 nodes)
   new_pages n =
-      let a = descends_pages P shelf new tells t.height t.root None [] [] left walks.0 walks.1 walks.2 mid_holds agree n in
+      let a = descends_pages P shelf new is_known t.height t.root None [] [] left walks.0 walks.1 walks.2 mid_holds agree n in
       let b = root_pages P.number t.height n new walks.1 walks.0 nodes root height walks.3 holds in omega (arith, a, b)
 
   pub left_in : (n : ℕ) → IsIn n left → IsIn n (live_pages (nodes_of shelf.read) t)
-  left_in n k = elim (descends_in P shelf tells t.height t.root None [] [] left walks.0 walks.1 walks.2 n k) [ inl a ↦ absurd a | inr b ↦ b ]
+  left_in n k = elim (descends_in P shelf is_known t.height t.root None [] [] left walks.0 walks.1 walks.2 n k) [ inl a ↦ absurd a | inr b ↦ b ]
 
-  module _ (next : Live) (at_root : next.root ≡ root) (at_height : next.height ≡ height) (counted : next.count ≡ t.count + 1) (space : IsSpace P.space) (fits : ObjectFits P.space P.object)
+  module _ (next : Live) (at_root : next.root ≡ root) (at_height : next.height ≡ height) (counted : next.count ≡ t.count + 1) (space : IsSpace P.space) (is_point : ObjectFits P.space P.object)
       (same : rules_of P ≡ rules P.space P.promote P.split) (named : P.object.id ≡ t.count) (sound : IsSoundTree P.space (nodes_of shelf.read) t)
       (up : (i : ℕ) → P.number i < P.number (i + 1)) (out : (i : ℕ) → times (P.number i) (live_pages (nodes_of shelf.read) t) ≡ 0)
       (within : (i : ℕ) → i < length nodes → IsNodePage next (P.number i)) (wide : t.pages ≤ next.pages) where
@@ -70,7 +70,7 @@ module _ (P : Plan) (shelf : Shelf) (tells : IsTrue shelf.tells) (t : Live) (lef
     was_sound = sound_without_pages P.space (nodes_of shelf.read) t.height (root_least t.height) None t.root sound.parts
 
     pub now_sound : IsSoundTall P.space (tree_of new next)
-    now_sound = subst (IsSoundTall P.space) (sym next_tree) (insertion_keeps_sound P.space space P.promote P.split P.object fits (tree_of (nodes_of shelf.read) t) was_sound)
+    now_sound = subst (IsSoundTall P.space) (sym next_tree) (insertion_keeps_sound P.space space P.promote P.split P.object is_point (tree_of (nodes_of shelf.read) t) was_sound)
 
     pub next_pages : live_pages new next ≡ pages_at new height root
     next_pages = ap (λ (k : ℕ). pages_at new next.height k) at_root ∙ ap (λ (k : ℕ). pages_at new k root) at_height
@@ -144,22 +144,22 @@ module _ (P : Plan) (shelf : Shelf) (tells : IsTrue shelf.tells) (t : Live) (lef
     )
 
 -- a file over which the staged nodes stand has the tree of the insertion
-pub has_inserted : (P : Plan) (shelf : Shelf) → IsTrue shelf.tells → (t : Live) (nodes : List Node) (root height : ℕ) (placed : Placed) → Walks P shelf t placed.left nodes root height →
+pub has_inserted : (P : Plan) (shelf : Shelf) → IsTrue shelf.is_known → (t : Live) (nodes : List Node) (root height : ℕ) (placed : Placed) → Walks P shelf t placed.left nodes root height →
     placed.staged ≡ numbered P.number 0 nodes → placed.next.root ≡ root → placed.next.height ≡ height → placed.next.count ≡ t.count + 1 → IsSpace P.space → ObjectFits P.space P.object →
     rules_of P ≡ rules P.space P.promote P.split → P.object.id ≡ t.count → IsSoundTree P.space (nodes_of shelf.read) t →
     ((i : ℕ) → P.number i < P.number (i + 1)) → ((i : ℕ) → times (P.number i) (live_pages (nodes_of shelf.read) t) ≡ 0) →
     ((i : ℕ) → i < length nodes → IsNodePage placed.next (P.number i)) → t.pages ≤ placed.next.pages →
     (new : Nodes) → IsOver (nodes_of shelf.read) t placed.staged new → HasInserted P.space (rules P.space P.promote P.split) (nodes_of shelf.read) t P.object placed new
-has_inserted P shelf tells t nodes root height placed walks staged at_root at_height counted space fits same named sound up out within wide new over =
+has_inserted P shelf is_known t nodes root height placed walks staged at_root at_height counted space is_point same named sound up out within wide new over =
     let holds : HoldsFrom new P.number 0 nodes = stand_holds new P.number 0 nodes (subst (AllByRecursion (λ (s : StagedNode). new s.page ≡ Some s.node)) staged over.stand) in
     let agree : Agree (nodes_of shelf.read) new (live_pages (nodes_of shelf.read) t) = λ page k.
     over.stay page k (ap (λ (ss : List StagedNode). staged_for ss page) staged ∙ free_none (numbered P.number 0 nodes) page (given_free P.number (live_pages (nodes_of shelf.read) t) page 0 nodes out k)) in
     record {
-      tree = next_tree P shelf tells t placed.left nodes root height walks new holds agree placed.next at_root at_height counted space fits same named sound up out within wide;
-      sound = next_sound P shelf tells t placed.left nodes root height walks new holds agree placed.next at_root at_height counted space fits same named sound up out within wide;
-      points = next_points P shelf tells t placed.left nodes root height walks new holds agree placed.next at_root at_height counted space fits same named sound up out within wide;
-      tags = next_tags P shelf tells t placed.left nodes root height walks new holds agree placed.next at_root at_height counted space fits same named sound up out within wide;
-      fresh = ap (map (staged_tree new)) staged ∙ trees_numbered new P.number 0 nodes ∙ new_fresh P shelf tells t placed.left nodes root height walks new holds agree ∙ ap (λ (R : Rules). fresh_of R P.object (tree_of (nodes_of shelf.read) t)) same;
-      left = next_left P shelf tells t placed.left nodes root height walks new holds agree placed.next at_root at_height counted space fits same named sound up out within wide;
-      balance = λ page. balance P shelf tells t placed.left nodes root height walks new holds agree placed.next at_root at_height counted space fits same named sound up out within wide page ∙ ap (λ (ps : List ℕ). times page (live_pages (nodes_of shelf.read) t) + times page ps) (sym (ap pages_of staged ∙ pages_numbered P.number 0 nodes));
+      tree = next_tree P shelf is_known t placed.left nodes root height walks new holds agree placed.next at_root at_height counted space is_point same named sound up out within wide;
+      sound = next_sound P shelf is_known t placed.left nodes root height walks new holds agree placed.next at_root at_height counted space is_point same named sound up out within wide;
+      points = next_points P shelf is_known t placed.left nodes root height walks new holds agree placed.next at_root at_height counted space is_point same named sound up out within wide;
+      tags = next_tags P shelf is_known t placed.left nodes root height walks new holds agree placed.next at_root at_height counted space is_point same named sound up out within wide;
+      fresh = ap (map (staged_tree new)) staged ∙ trees_numbered new P.number 0 nodes ∙ new_fresh P shelf is_known t placed.left nodes root height walks new holds agree ∙ ap (λ (R : Rules). fresh_of R P.object (tree_of (nodes_of shelf.read) t)) same;
+      left = next_left P shelf is_known t placed.left nodes root height walks new holds agree placed.next at_root at_height counted space is_point same named sound up out within wide;
+      balance = λ page. balance P shelf is_known t placed.left nodes root height walks new holds agree placed.next at_root at_height counted space is_point same named sound up out within wide page ∙ ap (λ (ps : List ℕ). times page (live_pages (nodes_of shelf.read) t) + times page ps) (sym (ap pages_of staged ∙ pages_numbered P.number 0 nodes));
     }

@@ -35,23 +35,23 @@ ok_of (Ok m) n is = cc
 ok_of (Err f) n is = cc
 
 -- the child that is chosen is a sound entry's
-pub sound_walk : (s : Space) → s.words ≤ 64 → (read : Read) (p : List ℕ) (h least : ℕ) (above : Option (List ℕ)) (page : ℕ) → (0 < h → 1 ≤ least) → IsSoundAt s (nodes_of read) h least above page → walk_fault s read p h page ≡ None
+pub sound_walk : (s : Space) → s.dimension ≤ 64 → (read : Read) (p : List ℕ) (h least : ℕ) (above : Option (List ℕ)) (page : ℕ) → (0 < h → 1 ≤ least) → IsSoundAt s (nodes_of read) h least above page → walk_fault s read p h page ≡ None
 sound_walk s few read p zero least above page some sound = ap (leaf_fault page) (ok_of (read page) (Leaf sound.0) sound.1)
 sound_walk s few read p (suc h) least above page some sound =
     ap (inner_fault (walk_fault s read p h) s p (suc h) page) (ok_of (read page) (Inner (suc h) sound.0) sound.1)
     ∙ ap (λ (b : Bool). if b then walk_fault s read p h (chosen_child s p sound.0) else Some (Level page)) (let e : (suc h == suc h) ≡ true = grind (arith, nat_tests) in e)
     ∙ below sound.0 (let enough = sound.2.enough in let l = some (omega arith) in omega (arith, enough, l)) sound.3
-    (λ e k. sound_walk s few read p h (least_for s.words) (Some e.point) e.child (λ high. let three = three_at_least s.words few in omega (arith, three)) k)
+    (λ e k. sound_walk s few read p h (least_for s.dimension) (Some e.point) e.child (λ high. let three = three_at_least s.dimension few in omega (arith, three)) k)
   where
-    below : (es : List InnerEntry) → 0 < length es → AllByRecursion (λ e. IsSoundEntry s above (objects_at (nodes_of read) h e.child) e × IsSoundAt s (nodes_of read) h (least_for s.words) (Some e.point) e.child) es →
-        ((e : InnerEntry) → IsSoundAt s (nodes_of read) h (least_for s.words) (Some e.point) e.child → walk_fault s read p h e.child ≡ None) → walk_fault s read p h (chosen_child s p es) ≡ None
+    below : (es : List InnerEntry) → 0 < length es → AllByRecursion (λ e. IsSoundEntry s above (objects_at (nodes_of read) h e.child) e × IsSoundAt s (nodes_of read) h (least_for s.dimension) (Some e.point) e.child) es →
+        ((e : InnerEntry) → IsSoundAt s (nodes_of read) h (least_for s.dimension) (Some e.point) e.child → walk_fault s read p h e.child ≡ None) → walk_fault s read p h (chosen_child s p es) ≡ None
     below [] any all deep = absurd (omega arith)
     below (e ∷ es) any all deep =
         let n = length_map inner_ball (e ∷ es) in
         let low : chosen s (map inner_ball (e ∷ es)) p < length (e ∷ es) = let c = chosen_low s (map inner_ball (e ∷ es)) p (omega (arith, n)) in omega (arith, c, n) in
         let mine : InnerEntry = get_or (e ∷ es) (chosen s (map inner_ball (e ∷ es)) p) e in
         ap (walk_fault s read p h) (named (e ∷ es) e low) ∙ deep (get_or (e ∷ es) (chosen s (map inner_ball (e ∷ es)) p) e)
-        (all_in (λ (e : InnerEntry). IsSoundEntry s above (objects_at (nodes_of read) h e.child) e × IsSoundAt s (nodes_of read) h (least_for s.words) (Some e.point) e.child) (e ∷ es) _ all
+        (all_in (λ (e : InnerEntry). IsSoundEntry s above (objects_at (nodes_of read) h e.child) e × IsSoundAt s (nodes_of read) h (least_for s.dimension) (Some e.point) e.child) (e ∷ es) _ all
         (in_get (e ∷ es) (chosen s (map inner_ball (e ∷ es)) p) e low)).1
       where
         named : (xs : List InnerEntry) (z : InnerEntry) → chosen s (map inner_ball xs) p < length xs → chosen_child s p xs ≡ (get_or xs (chosen s (map inner_ball xs) p) z).child
@@ -63,16 +63,16 @@ sound_walk s few read p (suc h) least above page some sound =
             same_or (y ∷ ys) (suc i) z low = same_or ys i z (omega arith)
 
 -- a sound tree has many objects
-pub plain_many : (s : Space) → s.words ≤ 64 → (h least : ℕ) (t : Plain h) → IsSoundPlain s h least t → least * 3 ^ h ≤ length (objects_in h t)
+pub plain_many : (s : Space) → s.dimension ≤ 64 → (h least : ℕ) (t : Plain h) → IsSoundPlain s h least t → least * 3 ^ h ≤ length (objects_in h t)
 plain_many s few zero least os sound = let e = sound.0.enough in omega (arith, e)
-plain_many s few (suc h) least bs sound = many bs sound.0.enough (each bs (λ b k. plain_many s few h (least_for s.words) b.below k) sound.1)
+plain_many s few (suc h) least bs sound = many bs sound.0.enough (each bs (λ b k. plain_many s few h (least_for s.dimension) b.below k) sound.1)
   where
-    child : (b : Branch (Plain h)) → least_for s.words * 3 ^ h ≤ length (objects_in h b.below) → 3 ^ suc h ≤ length (objects_in h b.below)
-    child b many = let three = mul-le-mul_right {m = 3} {n = least_for s.words} (3 ^ h) (three_at_least s.words few) in let power = pow-succ' 3 h in omega (arith, many, three, power)
+    child : (b : Branch (Plain h)) → least_for s.dimension * 3 ^ h ≤ length (objects_in h b.below) → 3 ^ suc h ≤ length (objects_in h b.below)
+    child b many = let three = mul-le-mul_right {m = 3} {n = least_for s.dimension} (3 ^ h) (three_at_least s.dimension few) in let power = pow-succ' 3 h in omega (arith, many, three, power)
 
-    each : (bs : List (Branch (Plain h))) → ((b : Branch (Plain h)) → IsSoundPlain s h (least_for s.words) b.below → least_for s.words * 3 ^ h ≤ length (objects_in h b.below)) →
-        AllByRecursion (λ b. IsTrue (s.fits b.point) × BranchCovers s h b × IsSoundPlain s h (least_for s.words) b.below) bs → AllByRecursion (λ b. 3 ^ suc h ≤ length (objects_in h b.below)) bs
-    each bs ih all = all_weaker (λ (b : Branch (Plain h)). IsTrue (s.fits b.point) × BranchCovers s h b × IsSoundPlain s h (least_for s.words) b.below) (λ (b : Branch (Plain h)). 3 ^ suc h ≤ length (objects_in h b.below)) bs (λ b k. child b (ih b k.2)) all
+    each : (bs : List (Branch (Plain h))) → ((b : Branch (Plain h)) → IsSoundPlain s h (least_for s.dimension) b.below → least_for s.dimension * 3 ^ h ≤ length (objects_in h b.below)) →
+        AllByRecursion (λ b. IsTrue (s.is_point b.point) × BranchCovers s h b × IsSoundPlain s h (least_for s.dimension) b.below) bs → AllByRecursion (λ b. 3 ^ suc h ≤ length (objects_in h b.below)) bs
+    each bs ih all = all_weaker (λ (b : Branch (Plain h)). IsTrue (s.is_point b.point) × BranchCovers s h b × IsSoundPlain s h (least_for s.dimension) b.below) (λ (b : Branch (Plain h)). 3 ^ suc h ≤ length (objects_in h b.below)) bs (λ b k. child b (ih b k.2)) all
 
     many : (bs : List (Branch (Plain h))) → least ≤ length bs → AllByRecursion (λ b. 3 ^ suc h ≤ length (objects_in h b.below)) bs → least * 3 ^ suc h ≤ length (flat_map (λ b. objects_in h b.below) bs)
     many bs enough all =
@@ -85,13 +85,13 @@ long_count os = is_count_by length (λ o. true) refl (λ o os. omega arith) os
 -- a sound tree of fewer than 2^24 objects grows to no height above 14
 pub not_split : (s : Space) → IsSpace s → (promote split : ℕ) (nodes : Nodes) (t : Live) (o : Object) → ObjectFits s o → IsSoundTree s nodes t → t.count < 2 ^ 24 → t.height ≡ 14 →
     is_split (inserted (rules s promote split) o t.height (tree_at nodes t.height t.root)) ≡ false
-not_split s space promote split nodes t o fits sound small high = cases (inserted (rules s promote split) o t.height (tree_at nodes t.height t.root)) grown count
+not_split s space promote split nodes t o is_point sound small high = cases (inserted (rules s promote split) o t.height (tree_at nodes t.height t.root)) grown count
   where
     was : IsSoundTall s (tree_of nodes t)
     was = sound_without_pages s nodes t.height (root_least t.height) None t.root sound.parts
 
     grown : IsSoundTall s (placed s promote split o (tree_of nodes t))
-    grown = insertion_keeps_sound s space promote split o fits (tree_of nodes t) was
+    grown = insertion_keeps_sound s space promote split o is_point (tree_of nodes t) was
 
     counted : length (objects_of (tree_of nodes t)) ≡ t.count
     counted = ap length (same_objects nodes t.height t.root) ∙ length_map object_of (objects nodes t) ∙ sym (length_map (λ e. e.id) (objects nodes t)) ∙ (each_once_back t.count (map (λ e. e.id) (objects nodes t)) sound.ids).2
@@ -111,7 +111,7 @@ not_split s space promote split nodes t o fits sound small high = cases (inserte
 
 -- an insertion into a sound tree meets no fault
 pub sound_faultless : (s : Space) → IsSpace s → (promote split : ℕ) (read : Read) (t : Live) (o : Object) → ObjectFits s o → IsSoundTree s (nodes_of read) t → t.count < 2 ^ 24 → place_fault s (rules s promote split) read t o ≡ None
-sound_faultless s space promote split read t o fits sound small =
+sound_faultless s space promote split read t o is_point sound small =
     ap (λ (f : Option PageFault). or_level f ((t.height == 14) && is_split (inserted (rules s promote split) o t.height (tree_at (nodes_of read) t.height t.root))) t.root)
     (sound_walk s space.few_words read o.point t.height (root_least t.height) None t.root (some t.height) sound.parts)
     ∙ last (t.height == 14) refl
@@ -121,17 +121,17 @@ sound_faultless s space promote split read t o fits sound small =
     some (suc h) high = omega arith
 
     last : (b : Bool) → (t.height == 14) ≡ b → or_level None ((t.height == 14) && is_split (inserted (rules s promote split) o t.height (tree_at (nodes_of read) t.height t.root))) t.root ≡ None
-    last true e = let off = not_split s space promote split (nodes_of read) t o fits sound small (let h : t.height ≡ 14 = grind (arith, nat_tests) in h) in rw (e, off) refl
+    last true e = let off = not_split s space promote split (nodes_of read) t o is_point sound small (let h : t.height ≡ 14 = grind (arith, nat_tests) in h) in rw (e, off) refl
     last false e = rw e refl
 
-pub tree_undamaged : (old new : Shelf) (first : Option PageFault) (f : PlaceFault) → HasTreeCause old new first f → IsTrue old.tells → first ≡ None → IsUndamaged f
-tree_undamaged old new first (Page Disk) cause tells none = tt
-tree_undamaged old new first (Page (Bad page fault)) cause tells none = absurd (let is = cause.1 tells in cc)
-tree_undamaged old new first (Page (Outside page)) cause tells none = absurd (let is = cause.1 tells in cc)
-tree_undamaged old new first (Page Memory) cause tells none = cause
-tree_undamaged old new first (Page (Repeats page)) cause tells none = cause
-tree_undamaged old new first (Page (Level page)) cause tells none = absurd (let is = cause tells in cc)
-tree_undamaged old new first Full cause tells none = tt
-tree_undamaged old new first (NoRoom pages needed) cause tells none = tt
-tree_undamaged old new first Worn cause tells none = tt
-tree_undamaged old new first NoMemory cause tells none = tt
+pub tree_undamaged : (old new : Shelf) (first : Option PageFault) (f : PlaceFault) → HasTreeCause old new first f → IsTrue old.is_known → first ≡ None → IsUndamaged f
+tree_undamaged old new first (Page Disk) cause is_known none = tt
+tree_undamaged old new first (Page (Bad page fault)) cause is_known none = absurd (let is = cause.1 is_known in cc)
+tree_undamaged old new first (Page (Outside page)) cause is_known none = absurd (let is = cause.1 is_known in cc)
+tree_undamaged old new first (Page Memory) cause is_known none = cause
+tree_undamaged old new first (Page (Repeats page)) cause is_known none = cause
+tree_undamaged old new first (Page (Level page)) cause is_known none = absurd (let is = cause is_known in cc)
+tree_undamaged old new first Full cause is_known none = tt
+tree_undamaged old new first (NoRoom pages needed) cause is_known none = tt
+tree_undamaged old new first Worn cause is_known none = tt
+tree_undamaged old new first NoMemory cause is_known none = tt

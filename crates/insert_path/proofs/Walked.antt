@@ -36,18 +36,18 @@ pub told_node : (shelf : Shelf) (page : ℕ) (node : Node) → shelf.read page �
 told_node shelf page node is = ap node_or_none is
 
 -- the node that has grown is the rules' of the old one
-pub descends_shown : (P : Plan) (shelf : Shelf) (new : Nodes) → IsTrue shelf.tells → (h page : ℕ) (above : Option (List ℕ)) (l0 : List ℕ) (old : List Node) (l1 : List ℕ) (nodes : List Node) (g : Grew) →
+pub descends_shown : (P : Plan) (shelf : Shelf) (new : Nodes) → IsTrue shelf.is_known → (h page : ℕ) (above : Option (List ℕ)) (l0 : List ℕ) (old : List Node) (l1 : List ℕ) (nodes : List Node) (g : Grew) →
     Descends P shelf h page above l0 old l1 nodes g → HoldsFrom new P.number 0 nodes → Agree (nodes_of shelf.read) new (pages_at (nodes_of shelf.read) h page) →
     grown_tree new h g ≡ inserted (rules_of P) P.object h (tree_at (nodes_of shelf.read) h page)
-descends_shown P shelf new tells zero page above l0 old l1 nodes g d holds agree =
+descends_shown P shelf new is_known zero page above l0 old l1 nodes g d holds agree =
     leaf_shown P new (d.0 ++ new_entry P above ∷ []) old nodes g d.3 holds
     ∙ ap (fit (rules_of P) object_ball) (map_more object_of d.0 (new_entry P above))
-    ∙ ap (λ (p : Option Node). inserted (rules_of P) P.object zero (map object_of (leaf_entries p))) (sym (told_node shelf page (Leaf d.0) (d.1.told tells)))
-descends_shown P shelf new tells (suc h) page above l0 old l1 nodes g d holds agree =
+    ∙ ap (λ (p : Option Node). inserted (rules_of P) P.object zero (map object_of (leaf_entries p))) (sym (told_node shelf page (Leaf d.0) (d.1.told is_known)))
+descends_shown P shelf new is_known (suc h) page above l0 old l1 nodes g d holds agree =
     inner_shown P new h (suc h) (regrown (P.space.dist P.object.point) (parent_distance P.space above) (chosen P.space (map inner_ball d.0) P.object.point) d.3 d.0) d.2 nodes g d.8 holds
     ∙ ap (fit (rules_of P) branch_ball)
     (regrown_shown (nodes_of shelf.read) new h (inserted (rules_of P) P.object h) (P.space.dist P.object.point) (parent_distance P.space above) d.3 (chosen P.space (map inner_ball d.0) P.object.point) d.0 d.1 d.5
-    (descends_shown P shelf new tells h d.1.child (Some d.1.point) (l0 ++ page ∷ []) old l1 d.2 d.3 d.7 (holds_staged P inner_ball inner_with (Inner (suc h)) _ new d.2 nodes g d.8 holds)
+    (descends_shown P shelf new is_known h d.1.child (Some d.1.point) (l0 ++ page ∷ []) old l1 d.2 d.3 d.7 (holds_staged P inner_ball inner_with (Inner (suc h)) _ new d.2 nodes g d.8 holds)
     (agree_below (nodes_of shelf.read) new h page (suc h) d.0 d.1 is agree (chosen_in d.0 (chosen P.space (map inner_ball d.0) P.object.point) d.1 d.5 d.6))
     ∙ ap (λ (e : InnerEntry). inserted (rules_of P) P.object h (tree_at (nodes_of shelf.read) h e.child)) d.6)
     (λ e k. tree_same (nodes_of shelf.read) new h e.child (agree_below (nodes_of shelf.read) new h page (suc h) d.0 e is agree k))
@@ -56,7 +56,7 @@ descends_shown P shelf new tells (suc h) page above l0 old l1 nodes g d holds ag
     ∙ ap (λ (p : Option Node). inserted (rules_of P) P.object (suc h) (map (branch_at (nodes_of shelf.read) h) (inner_entries p))) (sym is)
   where
     is : nodes_of shelf.read page ≡ Some (Inner (suc h) d.0)
-    is = told_node shelf page (Inner (suc h) d.0) (d.4.told tells)
+    is = told_node shelf page (Inner (suc h) d.0) (d.4.told is_known)
 
 abbrev pub tall_at : Nodes → ℕ → ℕ → Tall
 tall_at file page k = record { height = k; tree = tree_at file k page }
@@ -89,24 +89,24 @@ fresh_level P file h es c low is =
     ∙ ap (λ (e : InnerEntry). fresh (rules_of P) P.object h (tree_at file h e.child)) (sym is)
 
 -- the staged nodes are the roots of the new subtrees, from the leaf upward
-pub descends_fresh : (P : Plan) (shelf : Shelf) (new : Nodes) → IsTrue shelf.tells → (h page : ℕ) (above : Option (List ℕ)) (l0 : List ℕ) (old : List Node) (l1 : List ℕ) (nodes : List Node) (g : Grew) →
+pub descends_fresh : (P : Plan) (shelf : Shelf) (new : Nodes) → IsTrue shelf.is_known → (h page : ℕ) (above : Option (List ℕ)) (l0 : List ℕ) (old : List Node) (l1 : List ℕ) (nodes : List Node) (g : Grew) →
     Descends P shelf h page above l0 old l1 nodes g → HoldsFrom new P.number 0 nodes → Agree (nodes_of shelf.read) new (pages_at (nodes_of shelf.read) h page) →
     trees_from new P.number 0 nodes ≡ trees_from new P.number 0 old ++ fresh (rules_of P) P.object h (tree_at (nodes_of shelf.read) h page)
-descends_fresh P shelf new tells zero page above l0 old l1 nodes g d holds agree =
+descends_fresh P shelf new is_known zero page above l0 old l1 nodes g d holds agree =
     trees_staged P leaf_ball leaf_with Leaf (d.0 ++ new_entry P above ∷ []) new zero old nodes g (λ xs. refl) d.3
-    ∙ ap (λ (t : Grown (Plain zero)). trees_from new P.number 0 old ++ parts zero t) (descends_shown P shelf new tells zero page above l0 old l1 nodes g d holds agree)
-descends_fresh P shelf new tells (suc h) page above l0 old l1 nodes g d holds agree =
+    ∙ ap (λ (t : Grown (Plain zero)). trees_from new P.number 0 old ++ parts zero t) (descends_shown P shelf new is_known zero page above l0 old l1 nodes g d holds agree)
+descends_fresh P shelf new is_known (suc h) page above l0 old l1 nodes g d holds agree =
     trees_staged P inner_ball inner_with (Inner (suc h)) _ new (suc h) d.2 nodes g (λ xs. refl) d.8
-    ∙ ap (λ (r : List Tall). r ++ parts (suc h) (grown_tree new (suc h) g)) (descends_fresh P shelf new tells h d.1.child (Some d.1.point) (l0 ++ page ∷ []) old l1 d.2 d.3 d.7 (holds_staged P inner_ball inner_with (Inner (suc h)) _ new d.2 nodes g d.8 holds)
+    ∙ ap (λ (r : List Tall). r ++ parts (suc h) (grown_tree new (suc h) g)) (descends_fresh P shelf new is_known h d.1.child (Some d.1.point) (l0 ++ page ∷ []) old l1 d.2 d.3 d.7 (holds_staged P inner_ball inner_with (Inner (suc h)) _ new d.2 nodes g d.8 holds)
     (agree_below (nodes_of shelf.read) new h page (suc h) d.0 d.1 is agree (chosen_in d.0 (chosen P.space (map inner_ball d.0) P.object.point) d.1 d.5 d.6)))
-    ∙ ap (λ (t : Grown (Plain (suc h))). (trees_from new P.number 0 old ++ fresh (rules_of P) P.object h (tree_at (nodes_of shelf.read) h d.1.child)) ++ parts (suc h) t) (descends_shown P shelf new tells (suc h) page above l0 old l1 nodes g d holds agree)
+    ∙ ap (λ (t : Grown (Plain (suc h))). (trees_from new P.number 0 old ++ fresh (rules_of P) P.object h (tree_at (nodes_of shelf.read) h d.1.child)) ++ parts (suc h) t) (descends_shown P shelf new is_known (suc h) page above l0 old l1 nodes g d holds agree)
     ∙ append_assoc (trees_from new P.number 0 old) (fresh (rules_of P) P.object h (tree_at (nodes_of shelf.read) h d.1.child)) (parts (suc h) (inserted (rules_of P) P.object (suc h) (tree_at (nodes_of shelf.read) (suc h) page)))
     ∙ ap (λ (r : List Tall). trees_from new P.number 0 old ++ (r ++ parts (suc h) (inserted (rules_of P) P.object (suc h) (tree_at (nodes_of shelf.read) (suc h) page))))
     (sym (fresh_level P (nodes_of shelf.read) h d.0 d.1 d.5 d.6)
     ∙ ap (λ (p : Option Node). fresh_in (fresh (rules_of P) P.object h) (chosen P.space (map branch_ball (map (branch_at (nodes_of shelf.read) h) (inner_entries p))) P.object.point) (map (branch_at (nodes_of shelf.read) h) (inner_entries p))) (sym is))
   where
     is : nodes_of shelf.read page ≡ Some (Inner (suc h) d.0)
-    is = told_node shelf page (Inner (suc h) d.0) (d.4.told tells)
+    is = told_node shelf page (Inner (suc h) d.0) (d.4.told is_known)
 
 -- how many nodes a node makes, and whether it has grown to two
 abbrev pub nodes_for : Bool → ℕ
@@ -155,23 +155,23 @@ grown_long file h grow far zero (e ∷ es) z low = cases (grow (tree_at file h e
 grown_long file h grow far (suc i) (e ∷ es) z low = let ih = grown_long file h grow far i es z (omega arith) in omega (arith, ih)
 
 -- a node grows to two where the rules say so
-pub descends_parity : (P : Plan) (shelf : Shelf) → IsTrue shelf.tells → (h page : ℕ) (above : Option (List ℕ)) (l0 : List ℕ) (old : List Node) (l1 : List ℕ) (nodes : List Node) (g : Grew) →
+pub descends_parity : (P : Plan) (shelf : Shelf) → IsTrue shelf.is_known → (h page : ℕ) (above : Option (List ℕ)) (l0 : List ℕ) (old : List Node) (l1 : List ℕ) (nodes : List Node) (g : Grew) →
     Descends P shelf h page above l0 old l1 nodes g → is_two g ≡ is_split (inserted (rules_of P) P.object h (tree_at (nodes_of shelf.read) h page))
-descends_parity P shelf tells zero page above l0 old l1 nodes g d =
+descends_parity P shelf is_known zero page above l0 old l1 nodes g d =
     (staged_parity P leaf_ball leaf_with Leaf (d.0 ++ new_entry P above ∷ []) old nodes g d.3).0
     ∙ ap (λ (k : ℕ). not (nat_le k P.most)) (length-append d.0 (new_entry P above ∷ []) ∙ ap (λ (k : ℕ). k + 1) (sym (length_map object_of d.0)) ∙ sym (length-append (map object_of d.0) (P.object ∷ [])))
     ∙ sym (fit_parity (rules_of P) object_ball (map object_of d.0 ++ P.object ∷ []))
-    ∙ ap (λ (p : Option Node). is_split (inserted (rules_of P) P.object zero (map object_of (leaf_entries p)))) (sym (told_node shelf page (Leaf d.0) (d.1.told tells)))
-descends_parity P shelf tells (suc h) page above l0 old l1 nodes g d =
+    ∙ ap (λ (p : Option Node). is_split (inserted (rules_of P) P.object zero (map object_of (leaf_entries p)))) (sym (told_node shelf page (Leaf d.0) (d.1.told is_known)))
+descends_parity P shelf is_known (suc h) page above l0 old l1 nodes g d =
     (staged_parity P inner_ball inner_with (Inner (suc h)) _ d.2 nodes g d.8).0
     ∙ ap (λ (k : ℕ). not (nat_le k P.most))
     (regrown_long (P.space.dist P.object.point) (parent_distance P.space above) at d.3 d.0 d.5
     ∙ ap (λ (b : Bool). length d.0 + one_more b)
-    (descends_parity P shelf tells h d.1.child (Some d.1.point) (l0 ++ page ∷ []) old l1 d.2 d.3 d.7 ∙ ap (λ (e : InnerEntry). is_split (inserted (rules_of P) P.object h (tree_at (nodes_of shelf.read) h e.child))) d.6)
+    (descends_parity P shelf is_known h d.1.child (Some d.1.point) (l0 ++ page ∷ []) old l1 d.2 d.3 d.7 ∙ ap (λ (e : InnerEntry). is_split (inserted (rules_of P) P.object h (tree_at (nodes_of shelf.read) h e.child))) d.6)
     ∙ sym (grown_long (nodes_of shelf.read) h (inserted (rules_of P) P.object h) (P.space.dist P.object.point) at d.0 d.1 d.5))
     ∙ sym (fit_parity (rules_of P) branch_ball (grown_at (inserted (rules_of P) P.object h) (P.space.dist P.object.point) at (map (branch_at (nodes_of shelf.read) h) d.0)))
     ∙ ap (λ bs. is_split (fit (rules_of P) branch_ball (grown_at (inserted (rules_of P) P.object h) (P.space.dist P.object.point) (chosen P.space bs P.object.point) (map (branch_at (nodes_of shelf.read) h) d.0)))) (sym (inner_balls (nodes_of shelf.read) h d.0))
-    ∙ ap (λ (p : Option Node). is_split (inserted (rules_of P) P.object (suc h) (map (branch_at (nodes_of shelf.read) h) (inner_entries p)))) (sym (told_node shelf page (Inner (suc h) d.0) (d.4.told tells)))
+    ∙ ap (λ (p : Option Node). is_split (inserted (rules_of P) P.object (suc h) (map (branch_at (nodes_of shelf.read) h) (inner_entries p)))) (sym (told_node shelf page (Inner (suc h) d.0) (d.4.told is_known)))
   where
     at : ℕ
     at = chosen P.space (map inner_ball d.0) P.object.point
@@ -181,20 +181,20 @@ parts_long h (Whole t) = refl
 parts_long h (Halves2 c d) = refl
 
 -- as many new nodes as new subtrees
-pub descends_long : (P : Plan) (shelf : Shelf) → IsTrue shelf.tells → (h page : ℕ) (above : Option (List ℕ)) (l0 : List ℕ) (old : List Node) (l1 : List ℕ) (nodes : List Node) (g : Grew) →
+pub descends_long : (P : Plan) (shelf : Shelf) → IsTrue shelf.is_known → (h page : ℕ) (above : Option (List ℕ)) (l0 : List ℕ) (old : List Node) (l1 : List ℕ) (nodes : List Node) (g : Grew) →
     Descends P shelf h page above l0 old l1 nodes g → length nodes ≡ length old + length (fresh (rules_of P) P.object h (tree_at (nodes_of shelf.read) h page))
-descends_long P shelf tells zero page above l0 old l1 nodes g d =
+descends_long P shelf is_known zero page above l0 old l1 nodes g d =
     (staged_parity P leaf_ball leaf_with Leaf (d.0 ++ new_entry P above ∷ []) old nodes g d.3).1
-    ∙ ap (λ (b : Bool). length old + nodes_for b) (descends_parity P shelf tells zero page above l0 old l1 nodes g d)
+    ∙ ap (λ (b : Bool). length old + nodes_for b) (descends_parity P shelf is_known zero page above l0 old l1 nodes g d)
     ∙ ap (λ (k : ℕ). length old + k) (sym (parts_long zero (inserted (rules_of P) P.object zero (tree_at (nodes_of shelf.read) zero page))))
-descends_long P shelf tells (suc h) page above l0 old l1 nodes g d =
-    let ih = descends_long P shelf tells h d.1.child (Some d.1.point) (l0 ++ page ∷ []) old l1 d.2 d.3 d.7 in
+descends_long P shelf is_known (suc h) page above l0 old l1 nodes g d =
+    let ih = descends_long P shelf is_known h d.1.child (Some d.1.point) (l0 ++ page ∷ []) old l1 d.2 d.3 d.7 in
     let more = (staged_parity P inner_ball inner_with (Inner (suc h)) _ d.2 nodes g d.8).1 in
-    let same = ap nodes_for (descends_parity P shelf tells (suc h) page above l0 old l1 nodes g d) ∙ sym (parts_long (suc h) (inserted (rules_of P) P.object (suc h) (tree_at (nodes_of shelf.read) (suc h) page))) in
+    let same = ap nodes_for (descends_parity P shelf is_known (suc h) page above l0 old l1 nodes g d) ∙ sym (parts_long (suc h) (inserted (rules_of P) P.object (suc h) (tree_at (nodes_of shelf.read) (suc h) page))) in
     let deep : length (fresh_in (fresh (rules_of P) P.object h) (chosen P.space (map branch_ball (tree_at (nodes_of shelf.read) (suc h) page)) P.object.point) (tree_at (nodes_of shelf.read) (suc h) page))
     ≡ length (fresh (rules_of P) P.object h (tree_at (nodes_of shelf.read) h d.1.child)) =
     ap (λ (p : Option Node). length (fresh_in (fresh (rules_of P) P.object h) (chosen P.space (map branch_ball (map (branch_at (nodes_of shelf.read) h) (inner_entries p))) P.object.point) (map (branch_at (nodes_of shelf.read) h) (inner_entries p))))
-    (told_node shelf page (Inner (suc h) d.0) (d.4.told tells))
+    (told_node shelf page (Inner (suc h) d.0) (d.4.told is_known))
     ∙ ap length (fresh_level P (nodes_of shelf.read) h d.0 d.1 d.5 d.6) in
     let all = length-append (fresh_in (fresh (rules_of P) P.object h) (chosen P.space (map branch_ball (tree_at (nodes_of shelf.read) (suc h) page)) P.object.point) (tree_at (nodes_of shelf.read) (suc h) page))
     (parts (suc h) (inserted (rules_of P) P.object (suc h) (tree_at (nodes_of shelf.read) (suc h) page))) in
@@ -209,21 +209,21 @@ pub named_child : (P : Plan) (es : List InnerEntry) (c : InnerEntry) → chosen 
 named_child P es c low is = child_page es (chosen P.space (map inner_ball es) P.object.point) c low is
 
 -- a walk that came to its end met no fault
-pub descends_faultless : (P : Plan) (shelf : Shelf) → IsTrue shelf.tells → (h page : ℕ) (above : Option (List ℕ)) (l0 : List ℕ) (old : List Node) (l1 : List ℕ) (nodes : List Node) (g : Grew) →
+pub descends_faultless : (P : Plan) (shelf : Shelf) → IsTrue shelf.is_known → (h page : ℕ) (above : Option (List ℕ)) (l0 : List ℕ) (old : List Node) (l1 : List ℕ) (nodes : List Node) (g : Grew) →
     Descends P shelf h page above l0 old l1 nodes g → walk_fault P.space shelf.read P.object.point h page ≡ None
-descends_faultless P shelf tells zero page above l0 old l1 nodes g d = ap (leaf_fault page) (d.1.told tells)
-descends_faultless P shelf tells (suc h) page above l0 old l1 nodes g d =
-    ap (inner_fault (walk_fault P.space shelf.read P.object.point h) P.space P.object.point (suc h) page) (d.4.told tells)
+descends_faultless P shelf is_known zero page above l0 old l1 nodes g d = ap (leaf_fault page) (d.1.told is_known)
+descends_faultless P shelf is_known (suc h) page above l0 old l1 nodes g d =
+    ap (inner_fault (walk_fault P.space shelf.read P.object.point h) P.space P.object.point (suc h) page) (d.4.told is_known)
     ∙ ap (λ (b : Bool). if b then walk_fault P.space shelf.read P.object.point h (chosen_child P.space P.object.point d.0) else Some (Level page)) (let e : (suc h == suc h) ≡ true = grind (arith, nat_tests) in e)
     ∙ ap (walk_fault P.space shelf.read P.object.point h) (named_child P d.0 d.1 d.5 d.6)
-    ∙ descends_faultless P shelf tells h d.1.child (Some d.1.point) (l0 ++ page ∷ []) old l1 d.2 d.3 d.7
+    ∙ descends_faultless P shelf is_known h d.1.child (Some d.1.point) (l0 ++ page ∷ []) old l1 d.2 d.3 d.7
 
 -- the pages that are left are those of the walk
-pub descends_left : (P : Plan) (shelf : Shelf) → IsTrue shelf.tells → (h page : ℕ) (above : Option (List ℕ)) (l0 : List ℕ) (old : List Node) (l1 : List ℕ) (nodes : List Node) (g : Grew) →
+pub descends_left : (P : Plan) (shelf : Shelf) → IsTrue shelf.is_known → (h page : ℕ) (above : Option (List ℕ)) (l0 : List ℕ) (old : List Node) (l1 : List ℕ) (nodes : List Node) (g : Grew) →
     Descends P shelf h page above l0 old l1 nodes g → l1 ≡ l0 ++ walk_pages P.space (nodes_of shelf.read) P.object.point h page
-descends_left P shelf tells zero page above l0 old l1 nodes g d = d.2
-descends_left P shelf tells (suc h) page above l0 old l1 nodes g d =
-    descends_left P shelf tells h d.1.child (Some d.1.point) (l0 ++ page ∷ []) old l1 d.2 d.3 d.7
+descends_left P shelf is_known zero page above l0 old l1 nodes g d = d.2
+descends_left P shelf is_known (suc h) page above l0 old l1 nodes g d =
+    descends_left P shelf is_known h d.1.child (Some d.1.point) (l0 ++ page ∷ []) old l1 d.2 d.3 d.7
     ∙ append_assoc l0 (page ∷ []) (walk_pages P.space (nodes_of shelf.read) P.object.point h d.1.child)
     ∙ ap (λ (c : ℕ). l0 ++ (page ∷ walk_pages P.space (nodes_of shelf.read) P.object.point h c)) (sym (named_child P d.0 d.1 d.5 d.6))
-    ∙ ap (λ (p : Option Node). l0 ++ (page ∷ walk_pages P.space (nodes_of shelf.read) P.object.point h (chosen_child P.space P.object.point (inner_entries p)))) (sym (told_node shelf page (Inner (suc h) d.0) (d.4.told tells)))
+    ∙ ap (λ (p : Option Node). l0 ++ (page ∷ walk_pages P.space (nodes_of shelf.read) P.object.point h (chosen_child P.space P.object.point (inner_entries p)))) (sym (told_node shelf page (Inner (suc h) d.0) (d.4.told is_known)))

@@ -13,7 +13,7 @@ use Rattle.tree_shape.specs.Tree.{parent_distance}
 use Rattle.tree_growth.specs.Dealing.{Ball, size, table_of, promoted, point_at, split_of, IsPair}
 use Rattle.tree_growth.specs.Insertion.{taken, left, chosen}
 use Rattle.tree_growth.proofs.Published.{all_taken, all_left, promoted_pair}
-use Rattle.node_page.specs.Nodes.{IsLawfulNode}
+use Rattle.node_page.specs.Nodes.{IsValidNode}
 use Rattle.promote_split.specs.declared.halves.Half.{Half}
 use Rattle.promote_split.specs.declared.halves.Halves.{Halves}
 use Rattle.promote_split.specs.Halves.{IsHalf}
@@ -72,12 +72,12 @@ inner_half s dim b xs h is all near = rw is.entries_are (each xs all (subst (λ 
 
 -- a leaf that is staged can be written
 pub leaf_writable : (P : Plan) (dim : ℕ) (es : List LeafEntry) (old new : List Node) (g : Grew) → P.most ≡ most_for dim → 1 ≤ P.least → length es ≤ P.most + 1 → AllByRecursion (IsLeafEntry dim) es →
-    IsStaged P leaf_ball leaf_with Leaf es old new g → AllByRecursion (IsLawfulNode dim) old → AllByRecursion (IsLawfulNode dim) new × IsLong dim g
+    IsStaged P leaf_ball leaf_with Leaf es old new g → AllByRecursion (IsValidNode dim) old → AllByRecursion (IsValidNode dim) new × IsLong dim g
 leaf_writable P dim es old new g most some few all staged before = elim staged [
-  | inl w ↦ (rw w.staged (all_append (IsLawfulNode dim) old (Leaf es ∷ []) before (((let k = w.few in omega arith), all), tt)), rw w.grew tt)
+  | inl w ↦ (rw w.staged (all_append (IsValidNode dim) old (Leaf es ∷ []) before (((let k = w.few in omega arith), all), tt)), rw w.grew tt)
   | inr k ↦ (let hs = k.0 in let s = k.1.halves.shares in let a = s.0 in let b = s.1 in let c = s.2 in
       let ms = (split_of P.space P.promote P.split P.least (map leaf_ball es)).mask in (
-        rw k.1.staged (all_append (IsLawfulNode dim) old (Leaf hs.first.entries ∷ Leaf hs.second.entries ∷ []) before (
+        rw k.1.staged (all_append (IsValidNode dim) old (Leaf hs.first.entries ∷ Leaf hs.second.entries ∷ []) before (
           (
             (omega arith),
             leaf_half P.space dim (split_of P.space P.promote P.split P.least (map leaf_ball es)).first (taken ms es) hs.first k.1.halves.split.0 (all_taken (IsLeafEntry dim) ms es all)
@@ -98,12 +98,12 @@ leaf_writable P dim es old new g most some few all staged before = elim staged [
 
 -- an inner node that is staged can be written
 pub inner_writable : (P : Plan) (dim level : ℕ) (es : List InnerEntry) (old new : List Node) (g : Grew) → P.most ≡ most_for dim → 1 ≤ P.least → 1 ≤ level → level ≤ 14 → 1 ≤ length es → length es ≤ P.most + 1 → AllByRecursion (IsInnerEntry dim) es →
-    IsStaged P inner_ball inner_with (Inner level) es old new g → AllByRecursion (IsLawfulNode dim) old → AllByRecursion (IsLawfulNode dim) new × IsLong dim g
+    IsStaged P inner_ball inner_with (Inner level) es old new g → AllByRecursion (IsValidNode dim) old → AllByRecursion (IsValidNode dim) new × IsLong dim g
 inner_writable P dim level es old new g most some low high any few all staged before = elim staged [
-  | inl w ↦ (rw w.staged (all_append (IsLawfulNode dim) old (Inner level es ∷ []) before ((low, high, any, (let k = w.few in omega arith), all), tt)), rw w.grew tt)
+  | inl w ↦ (rw w.staged (all_append (IsValidNode dim) old (Inner level es ∷ []) before ((low, high, any, (let k = w.few in omega arith), all), tt)), rw w.grew tt)
   | inr k ↦ (let hs = k.0 in let s = k.1.halves.shares in let a = s.0 in let b = s.1 in let c = s.2 in
       let ms = (split_of P.space P.promote P.split P.least (map inner_ball es)).mask in (
-        rw k.1.staged (all_append (IsLawfulNode dim) old (Inner level hs.first.entries ∷ Inner level hs.second.entries ∷ []) before (
+        rw k.1.staged (all_append (IsValidNode dim) old (Inner level hs.first.entries ∷ Inner level hs.second.entries ∷ []) before (
           (
             low,
             high,
@@ -145,19 +145,19 @@ joined dim (e ∷ es) a b = ((a.0, b.0.0, b.0.1), joined dim es a.1 b.1)
 
 -- all nodes of a descent can be written
 pub descends_writable : (P : Plan) (shelf : Shelf) → P.most ≡ most_for shelf.dim → 1 ≤ P.least → length P.object.point ≡ shelf.dim → (h page : ℕ) (above : Option (List ℕ)) (l0 : List ℕ) (old : List Node) (l1 : List ℕ) (nodes : List Node) (g : Grew) →
-    Descends P shelf h page above l0 old l1 nodes g → AllByRecursion (IsLawfulNode shelf.dim) old → AllByRecursion (IsLawfulNode shelf.dim) nodes × IsLong shelf.dim g
+    Descends P shelf h page above l0 old l1 nodes g → AllByRecursion (IsValidNode shelf.dim) old → AllByRecursion (IsValidNode shelf.dim) nodes × IsLong shelf.dim g
 descends_writable P shelf most some long zero page above l0 old l1 nodes g d before =
-    let lawful : IsLawfulNode shelf.dim (Leaf d.0) = d.1.lawful in
-    leaf_writable P shelf.dim (d.0 ++ new_entry P above ∷ []) old nodes g most some (let k = lawful.0 in omega (arith, length-append d.0 (new_entry P above ∷ [])))
-    (all_append (IsLeafEntry shelf.dim) d.0 (new_entry P above ∷ []) lawful.1 ((long, d.4), tt)) d.3 before
+    let valid : IsValidNode shelf.dim (Leaf d.0) = d.1.valid in
+    leaf_writable P shelf.dim (d.0 ++ new_entry P above ∷ []) old nodes g most some (let k = valid.0 in omega (arith, length-append d.0 (new_entry P above ∷ [])))
+    (all_append (IsLeafEntry shelf.dim) d.0 (new_entry P above ∷ []) valid.1 ((long, d.4), tt)) d.3 before
 descends_writable P shelf most some long (suc h) page above l0 old l1 nodes g d before =
-    let lawful : IsLawfulNode shelf.dim (Inner (suc h) d.0) = d.4.lawful in
+    let valid : IsValidNode shelf.dim (Inner (suc h) d.0) = d.4.valid in
     let below = descends_writable P shelf most some long h d.1.child (Some d.1.point) (l0 ++ page ∷ []) old l1 d.2 d.3 d.7 before in
     let more = regrown_long (P.space.dist P.object.point) (parent_distance P.space above) (chosen P.space (map inner_ball d.0) P.object.point) d.3 d.0 d.5 in
     let few = one_at_most d.3 in
-    let count = lawful.3 in let any = lawful.2 in
-    inner_writable P shelf.dim (suc h) (regrown (P.space.dist P.object.point) (parent_distance P.space above) (chosen P.space (map inner_ball d.0) P.object.point) d.3 d.0) d.2 nodes g most some lawful.0 lawful.1
+    let count = valid.3 in let any = valid.2 in
+    inner_writable P shelf.dim (suc h) (regrown (P.space.dist P.object.point) (parent_distance P.space above) (chosen P.space (map inner_ball d.0) P.object.point) d.3 d.0) d.2 nodes g most some valid.0 valid.1
     (omega (arith, more)) (omega (arith, more, few))
     (joined shelf.dim _ (regrown_points shelf.dim (P.space.dist P.object.point) (parent_distance P.space above) (chosen P.space (map inner_ball d.0) P.object.point) d.3 d.0 below.1
-    (all_weaker (IsInnerEntry shelf.dim) (λ (e : InnerEntry). length e.point ≡ shelf.dim) d.0 (λ e k. k.0) lawful.4)) d.9)
+    (all_weaker (IsInnerEntry shelf.dim) (λ (e : InnerEntry). length e.point ≡ shelf.dim) d.0 (λ e k. k.0) valid.4)) d.9)
     d.8 below.0

@@ -23,11 +23,11 @@ pub record HasAsked (most : ℕ) (old new : Shelf) : Type 0 where
 -- why a walk stops, where `first` is the first fault on its pages: the disk failed, memory ran out, or the fault is `first`
 abbrev pub HasWalkCause : Shelf → Shelf → Option PageFault → PageFault → Type 0
 HasWalkCause old new first Disk = Rose old.faults new.faults
-HasWalkCause old new first (Bad page fault) = (fault ≢ NodeMemory) × (IsTrue old.tells → first ≡ Some (Bad page fault))
-HasWalkCause old new first (Outside page) = (is_within old.pages page ≡ false) × (IsTrue old.tells → first ≡ Some (Outside page))
+HasWalkCause old new first (Bad page fault) = (fault ≢ NodeMemory) × (IsTrue old.is_known → first ≡ Some (Bad page fault))
+HasWalkCause old new first (Outside page) = (is_within old.pages page ≡ false) × (IsTrue old.is_known → first ≡ Some (Outside page))
 HasWalkCause old new first Memory = Unit {0}
 HasWalkCause old new first (Repeats page) = ⊥
-HasWalkCause old new first (Level page) = IsTrue old.tells → first ≡ Some (Level page)
+HasWalkCause old new first (Level page) = IsTrue old.is_known → first ≡ Some (Level page)
 
 -- the fault of an insertion whose walk stopped: running out of memory is the insertion's own fault
 abbrev pub fault_of : PageFault → PlaceFault
@@ -43,7 +43,7 @@ HasPlaceCause s R numbers t o old new Worn = Unit {0}
 HasPlaceCause s R numbers t o old new NoMemory = Unit {0}
 HasPlaceCause s R numbers t o old new (NoRoom pages needed) =
     (pages ≡ t.pages) × (2 ^ 24 < pages + needed)
-    × (IsTrue old.tells → (place_fault s R old.read t o ≡ None) × (needed ≡ length (fresh_of R o (tree_of (nodes_of old.read) t)) - length numbers))
+    × (IsTrue old.is_known → (place_fault s R old.read t o ≡ None) × (needed ≡ length (fresh_of R o (tree_of (nodes_of old.read) t)) - length numbers))
 
 -- like `HasPlaceCause`, before the room is known
 abbrev pub HasTreeCause : Shelf → Shelf → Option PageFault → PlaceFault → Type 0

@@ -2,8 +2,8 @@ ghost use Rattle.std.specs.Prelude.{◌≡◌, ◌≢◌, ◌↔◌, ◌+◌, �
 ghost use Rattle.std.specs.List.{AllByRecursion};
 ghost use Rattle.tree_growth.specs.Insertion.{rules};
 ghost use Rattle.tree_shape.specs.Tree.{Nodes, IsSoundTree};
-ghost use Rattle.node_page.specs.Heads.{IsLawfulHead};
-ghost use Rattle.node_page.specs.Opening.{IsLawfulLive};
+ghost use Rattle.node_page.specs.Heads.{IsValidHead};
+ghost use Rattle.node_page.specs.Opening.{IsValidLive};
 ghost use Rattle.page_store.specs.Reading.{IsWithin, nodes_of};
 ghost use Rattle.page_store.specs.Staging.{pages_of};
 ghost use Rattle.insert_path.specs.Causes.{HasAsked, HasPlaceCause, IsUndamaged};
@@ -25,10 +25,10 @@ use tree_shape::{LAST_GENERATION, Live, fill};
 /// Inserts an object with the point `p` and the tag `tag` into the tree of a file, and returns the new nodes, for a commit. Its id
 /// is the number of objects before. New nodes get the pages `numbers`, in order, and then those from the file's end on. They are
 /// numbered from the leaf upward, the first half of a node before the second, a new root last.
-/// Clauses: what is asked of the caller (`fits`, `head`, `live`, `words`, `dim`, `pages`, `numbers`, `outside`); what the commit needs
-/// (`placement`, `apart`); the pages that the new nodes replace (`left_within`, `takes_place`); the answer (`walked`, `inserted`); what
-/// stays (`metric`, `keeps`); what stays, and the cost (`asked`); the cause of an error (`full`, `worn`, `cause`, `sound`); faults of the
-/// devices (`no_fault`).
+/// Clauses: what is asked of the caller (`is_point`, `head`, `live`, `dimension`, `dim`, `pages`, `numbers`, `outside`); what the commit
+/// needs (`placement`, `apart`); the pages that the new nodes replace (`left_within`, `takes_place`); the answer (`walked`, `inserted`);
+/// what stays (`metric`, `keeps`); what stays, and the cost (`asked`); the cause of an error (`full`, `worn`, `cause`, `sound`); faults of
+/// the devices (`no_fault`).
 /// Arguments: `pages`, `head`, `live` and `numbers` are the file and its free pages, `ruler` measures in its space, and `p` and `tag` are
 /// the object.
 pub fn place<P: Pages, R: Ruler>(
@@ -41,14 +41,14 @@ pub fn place<P: Pages, R: Ruler>(
     p: &[u32],
     tag: u64,
 ) -> Result<Placed, PlaceFault>
-    requires fits { IsTrue ((R.M.space (R.metric ruler.old)).fits p.now) }
-    requires head { IsLawfulHead head.now }
-    requires live { IsLawfulLive head.now.limit (live.now.pages * 4096) live.now }
-    requires words { (R.M.space (R.metric ruler.old)).words ≡ head.now.dim }
+    requires is_point { IsTrue ((R.M.space (R.metric ruler.old)).is_point p.now) }
+    requires head { IsValidHead head.now }
+    requires live { IsValidLive head.now.limit (live.now.pages * 4096) live.now }
+    requires dimension { (R.M.space (R.metric ruler.old)).dimension ≡ head.now.dim }
     requires dim { (P.shelf pages.old).dim ≡ head.now.dim }
     requires pages { (P.shelf pages.old).pages ≡ live.now.pages }
     requires numbers { AreNumbers live.now.pages numbers.now }
-    requires outside { IsTrue (P.shelf pages.old).tells →
+    requires outside { IsTrue (P.shelf pages.old).is_known →
         IsSoundTree (R.M.space (R.metric ruler.old)) (nodes_of (P.shelf pages.old).read) live.now →
         AreOutside (nodes_of (P.shelf pages.old).read) live.now numbers.now }
 
@@ -59,20 +59,20 @@ pub fn place<P: Pages, R: Ruler>(
 
     // What is placed can be committed.
     ensures placement { IfOk result (IsPlacement head.now live.now numbers.now 1) }
-    ensures apart { IfOk result (λ placed. IsTrue (P.shelf pages.old).tells →
+    ensures apart { IfOk result (λ placed. IsTrue (P.shelf pages.old).is_known →
         IsSoundTree (R.M.space (R.metric ruler.old)) (nodes_of (P.shelf pages.old).read) live.now →
         AreOutside (nodes_of (P.shelf pages.old).read) live.now (pages_of placed.staged)) }
 
     // Page by page, the new nodes take the place of what is left, also on a file that isn't sound.
     ensures left_within { IfOk result (λ placed. AllByRecursion (IsWithin live.now.pages) placed.left) }
-    ensures takes_place { IfOk result (λ placed. IsTrue (P.shelf pages.old).tells →
+    ensures takes_place { IfOk result (λ placed. IsTrue (P.shelf pages.old).is_known →
         TakesPlace (nodes_of (P.shelf pages.old).read) live.now placed) }
 
     // What is placed is the insertion's.
-    ensures walked { IfOk result (λ placed. IsTrue (P.shelf pages.old).tells →
+    ensures walked { IfOk result (λ placed. IsTrue (P.shelf pages.old).is_known →
         HasWalked (R.M.space (R.metric ruler.old)) (rules (R.M.space (R.metric ruler.old)) head.now.promote head.now.split)
         (P.shelf pages.old).read live.now (record { id = live.now.count; tag = tag; point = p.now }) placed) }
-    ensures inserted { IfOk result (λ placed. IsTrue (P.shelf pages.old).tells →
+    ensures inserted { IfOk result (λ placed. IsTrue (P.shelf pages.old).is_known →
         IsSoundTree (R.M.space (R.metric ruler.old)) (nodes_of (P.shelf pages.old).read) live.now →
         (new : Nodes) → IsOver (nodes_of (P.shelf pages.old).read) live.now placed.staged new →
         HasInserted (R.M.space (R.metric ruler.old)) (rules (R.M.space (R.metric ruler.old)) head.now.promote head.now.split)
@@ -84,7 +84,7 @@ pub fn place<P: Pages, R: Ruler>(
     ensures cause { IfErr result
         (HasPlaceCause (R.M.space (R.metric ruler.old)) (rules (R.M.space (R.metric ruler.old)) head.now.promote head.now.split)
         numbers.now live.now (record { id = live.now.count; tag = tag; point = p.now }) (P.shelf pages.old) (P.shelf pages.new)) }
-    ensures sound { IfErr result (λ fault. IsTrue (P.shelf pages.old).tells →
+    ensures sound { IfErr result (λ fault. IsTrue (P.shelf pages.old).is_known →
         IsSoundTree (R.M.space (R.metric ruler.old)) (nodes_of (P.shelf pages.old).read) live.now → IsUndamaged fault) }
 {
     if live.count == head.limit {

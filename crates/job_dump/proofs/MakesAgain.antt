@@ -93,7 +93,7 @@ by_each P (x ∷ xs) all = (all 0 x (omega arith), by_each P xs (λ k d low. all
 module _ (s : Space) (space : IsSpace s) (os : List LeafEntry) (count : ℕ) (once : (id : ℕ) → times_among os id ≡ due count id)
     (fit : AllByRecursion (Fits s) os) (tags : AllByRecursion SmallTag os) where
   -- an id's point is one of the space, and its tag one of 64 bits
-  entry_fits : (id : ℕ) → id < count → IsTrue (s.fits (point_of id os)) × (tag_of id os < 2 ^ 64)
+  entry_fits : (id : ℕ) → id < count → IsTrue (s.is_point (point_of id os)) × (tag_of id os < 2 ^ 64)
   entry_fits id low =
       let one = once id in
       let is = due_below count id low in
@@ -104,20 +104,20 @@ module _ (s : Space) (space : IsSpace s) (os : List LeafEntry) (count : ℕ) (on
       let point : point_of id os ≡ e.point = ap (λ (k : ℕ). point_of k os) (sym found.2) ∙ point_of-in os e found.1 (omega arith) in
       let tag : tag_of id os ≡ e.tag = ap (λ (k : ℕ). tag_of k os) (sym found.2) ∙ tag_of-in os e found.1 (omega arith) in
       let small = all_in SmallTag os e tags found.1 in
-      (subst (λ (p : List ℕ). IsTrue (s.fits p)) (sym point) (all_in (Fits s) os e fit found.1), omega arith)
+      (subst (λ (p : List ℕ). IsTrue (s.is_point p)) (sym point) (all_in (Fits s) os e fit found.1), omega arith)
 
-  row_fits : (id : ℕ) → id < count → IsRow s.words (row_of os id)
+  row_fits : (id : ℕ) → id < count → IsRow s.dimension (row_of os id)
   row_fits id low =
-      let fits = entry_fits id low in
-      record { tag = fits.1; long = space.long (point_of id os) fits.0; small = by_each (λ x. x < 2 ^ 32) (point_of id os) (space.small (point_of id os) fits.0) }
+      let is_point = entry_fits id low in
+      record { tag = is_point.1; long = space.long (point_of id os) is_point.0; small = by_each (λ x. x < 2 ^ 32) (point_of id os) (space.small (point_of id os) is_point.0) }
 
-  rows_fit : (id n : ℕ) → id + n ≤ count → AllByRecursion (IsRow s.words) (rows_from os id n)
+  rows_fit : (id n : ℕ) → id + n ≤ count → AllByRecursion (IsRow s.dimension) (rows_from os id n)
   rows_fit id zero low = tt
   rows_fit id (suc n) low = (row_fits id (omega arith), rows_fit (id + 1) n (omega arith))
 
-  points_fit : (id n : ℕ) → id + n ≤ count → list_all s.fits (map (λ row. row.1) (rows_from os id n)) ≡ true
+  points_fit : (id n : ℕ) → id + n ≤ count → list_all s.is_point (map (λ row. row.1) (rows_from os id n)) ≡ true
   points_fit id zero low = refl
-  points_fit id (suc n) low = and_from (s.fits (point_of id os)) (list_all s.fits (map (λ row. row.1) (rows_from os (id + 1) n))) (entry_fits id (omega arith)).0 (points_fit (id + 1) n (omega arith))
+  points_fit id (suc n) low = and_from (s.is_point (point_of id os)) (list_all s.is_point (map (λ row. row.1) (rows_from os (id + 1) n))) (entry_fits id (omega arith)).0 (points_fit (id + 1) n (omega arith))
 
 -- the points and the tags in order of id
 abbrev objects_by_id : ℕ → List LeafEntry → Holdings
@@ -138,31 +138,31 @@ held rows = record { points = map (λ row. row.1) rows; tags = map (λ row. row.
 
 -- a command whose points are points of the space is executed
 is_executed : (setting : Setting) (state : State) (c : Command) → has_points_of setting.space c ≡ true → step setting state c ≡ execute setting state c
-is_executed setting state c fits = ap (λ (b : Bool). if b then execute setting state c else refused state refusal.Unfit) fits
+is_executed setting state c is_point = ap (λ (b : Bool). if b then execute setting state c else refused state refusal.Unfit) is_point
 
-load_makes : (setting : Setting) (words : ℕ) (rows : List Row) → list_all setting.space.fits (map (λ row. row.1) rows) ≡ true → length (map (λ (row : Row). row.1) rows) ≤ setting.limit →
-    (after setting nothing_yet (load_tagged words rows ∷ [])).objects ≡ held rows
-load_makes setting words rows fits few =
+load_makes : (setting : Setting) (dimension : ℕ) (rows : List Row) → list_all setting.space.is_point (map (λ row. row.1) rows) ≡ true → length (map (λ (row : Row). row.1) rows) ≤ setting.limit →
+    (after setting nothing_yet (load_tagged dimension rows ∷ [])).objects ≡ held rows
+load_makes setting dimension rows is_point few =
     let points : List (List ℕ) = map (λ (row : Row). row.1) rows in
     let done : Step = record { reply = reply.Loaded (length points); state = record nothing_yet { objects = held rows } } in
-    ap (λ (s : Step). s.state.objects) (is_executed setting nothing_yet (load_tagged words rows) fits)
+    ap (λ (s : Step). s.state.objects) (is_executed setting nothing_yet (load_tagged dimension rows) is_point)
     ∙ ap (λ (b : Bool). (if b then refused nothing_yet refusal.Full else done).state.objects) (le-ltb setting.limit (length points) few)
 
-none_makes : (setting : Setting) (words : ℕ) → (after setting nothing_yet (script words (script_text []))).objects ≡ held []
+none_makes : (setting : Setting) (dimension : ℕ) → (after setting nothing_yet (script dimension (script_text []))).objects ≡ held []
 unfolding strip_bom records_from next_record
-none_makes setting words = refl
+none_makes setting dimension = refl
 
-script_makes : (setting : Setting) (rows : List Row) → 1 ≤ setting.space.words → AllByRecursion (IsRow setting.space.words) rows → list_all setting.space.fits (map (λ row. row.1) rows) ≡ true →
-    length (map (λ (row : Row). row.1) rows) ≤ setting.limit → length rows < 2 ^ 64 → (after setting nothing_yet (script setting.space.words (script_text rows))).objects ≡ held rows
-script_makes setting [] some all fits few low = none_makes setting setting.space.words
-script_makes setting (row ∷ rows) some all fits few low =
-    ap (λ commands. (after setting nothing_yet commands).objects) (scripts_read_back setting.space.words row rows some low all) ∙ load_makes setting setting.space.words (row ∷ rows) fits few
+script_makes : (setting : Setting) (rows : List Row) → 1 ≤ setting.space.dimension → AllByRecursion (IsRow setting.space.dimension) rows → list_all setting.space.is_point (map (λ row. row.1) rows) ≡ true →
+    length (map (λ (row : Row). row.1) rows) ≤ setting.limit → length rows < 2 ^ 64 → (after setting nothing_yet (script setting.space.dimension (script_text rows))).objects ≡ held rows
+script_makes setting [] some all is_point few low = none_makes setting setting.space.dimension
+script_makes setting (row ∷ rows) some all is_point few low =
+    ap (λ commands. (after setting nothing_yet commands).objects) (scripts_read_back setting.space.dimension row rows some low all) ∙ load_makes setting setting.space.dimension (row ∷ rows) is_point few
 
 pub dumps_make_again : HeadsHaveSpaces → DumpsMakeAgain
 dumps_make_again spaces head live file rows bytes sound has =
     let s : Space = space_of head in
-    let lawful = sound.opens.spells_head.lawful in
-    let space : IsSpace s = spaces head lawful in
+    let valid = sound.opens.spells_head.valid in
+    let space : IsSpace s = spaces head valid in
     let os : List LeafEntry = objects_on (nodes_in head.dim live file) has.pages in
     let same : os ≡ objects (nodes_in head.dim live file) live = whole_meets (nodes_in head.dim live file) s live has.pages sound.tree has.walk in
     let fit : AllByRecursion (Fits s) os =
@@ -171,8 +171,8 @@ dumps_make_again spaces head live file rows bytes sound has =
     let made : List Row = rows_from os 0 live.count in
     let long = length-rows_from os 0 live.count in
     let size : length (map (λ (row : Row). row.1) made) ≡ live.count = length-map made (λ (row : Row). row.1) ∙ long in
-    let limit = sound.opens.lawful.count in
-    let top = limit_small head.limit lawful.limit in
+    let limit = sound.opens.valid.count in
+    let top = limit_small head.limit valid.limit in
     ap (λ (r : List Row). (after (setting_of head) nothing_yet (script head.dim (script_text r))).objects) has.rows_are
     ∙ script_makes (setting_of head) made space.some_words (rows_fit s space os live.count has.once fit tags 0 live.count (omega arith))
     (points_fit s space os live.count has.once fit tags 0 live.count (omega arith)) (omega arith) (omega arith)

@@ -40,14 +40,14 @@ fault_in head live file (dump.Page fault) has = record {
 fault_in head live file (dump.Id id) has = (has.is, λ sound. has.unsound (space_of head) sound.tree)
 
 -- a fault that bytes tell
-told_cause : (live : Live) (old new : Shelf) (fault : DumpFault) → (IsPassing fault → ⊥) → HasCause live old new fault → IsTrue old.tells → HasFaultOf old.read live fault
-told_cause live old new (dump.Page page.Disk) stays cause tells = absurd (stays tt)
-told_cause live old new (dump.Page page.Memory) stays cause tells = absurd (stays tt)
-told_cause live old new (dump.Page (page.Bad p f)) stays cause tells = cause tells
-told_cause live old new (dump.Page (page.Outside p)) stays cause tells = cause tells
-told_cause live old new (dump.Page (page.Repeats p)) stays cause tells = cause tells
-told_cause live old new (dump.Page (page.Level p)) stays cause tells = cause tells
-told_cause live old new (dump.Id id) stays cause tells = cause tells
+told_cause : (live : Live) (old new : Shelf) (fault : DumpFault) → (IsPassing fault → ⊥) → HasCause live old new fault → IsTrue old.is_known → HasFaultOf old.read live fault
+told_cause live old new (dump.Page page.Disk) stays cause is_known = absurd (stays tt)
+told_cause live old new (dump.Page page.Memory) stays cause is_known = absurd (stays tt)
+told_cause live old new (dump.Page (page.Bad p f)) stays cause is_known = cause is_known
+told_cause live old new (dump.Page (page.Outside p)) stays cause is_known = cause is_known
+told_cause live old new (dump.Page (page.Repeats p)) stays cause is_known = cause is_known
+told_cause live old new (dump.Page (page.Level p)) stays cause is_known = cause is_known
+told_cause live old new (dump.Id id) stays cause is_known = cause is_known
 
 pub disk_rose : (live : Live) (old new : Shelf) (fault : DumpFault) → fault ≡ dump.Page page.Disk → HasCause live old new fault → Rose old.faults new.faults
 disk_rose live old new fault is cause = subst (HasCause live old new) is cause
@@ -62,14 +62,14 @@ damaged_unsound one file fault damaged head live sound =
     unsound_by (dump.Page f) has = has.unsound
     unsound_by (dump.Id id) has = has.1
 
-module _ (d0 d1 : DiskState) (head : Head) (live : Live) (opens : IsTrue d0.tells → OpensTo d0.bytes head live) (version : head.version ≡ 2) (same : IsUnchanged d0 d1) where
-  rows_before : (rows : List (ℕ × List ℕ)) → AreRows (opened_shelf head live d1) live rows → IsTrue d0.tells → HoldsRows d0.bytes rows
-  rows_before rows are tells = record {
+module _ (d0 d1 : DiskState) (head : Head) (live : Live) (opens : IsTrue d0.is_known → OpensTo d0.bytes head live) (version : head.version ≡ 2) (same : IsUnchanged d0 d1) where
+  rows_before : (rows : List (ℕ × List ℕ)) → AreRows (opened_shelf head live d1) live rows → IsTrue d0.is_known → HoldsRows d0.bytes rows
+  rows_before rows are is_known = record {
     head = head;
     live = live;
-    opens = opens tells;
+    opens = opens is_known;
     version = version;
-    rows_are = subst (λ (bytes : List ℕ). HasRows (nodes_in head.dim live bytes) live rows) same.same_bytes (are (subst IsTrue (sym same.same_tells) tells));
+    rows_are = subst (λ (bytes : List ℕ). HasRows (nodes_in head.dim live bytes) live rows) same.same_bytes (are (subst IsTrue (sym same.same_known) is_known));
   }
 
   part_before : (out : SinkState) (w1 : Option (List ℕ)) → PutsFront (opened_shelf head live d1) live out.written w1 → PutsPart d0 out w1
@@ -77,19 +77,19 @@ module _ (d0 d1 : DiskState) (head : Head) (live : Live) (opens : IsTrue d0.tell
 
   -- a line was told after what was put
   pub line_follows : (out0 out1 out2 : SinkState) (line : List ℕ) → MayPut (opened_shelf head live d1) live out0 out1 → Tells out1 out2 line → Follows d0 out0 out2 line
-  line_follows out0 out1 out2 line (inl none) tells = inl (subst (λ (o : SinkState). Tells o out2 line) none tells)
-  line_follows out0 out1 out2 line (inr part) tells = inr (
+  line_follows out0 out1 out2 line (inl none) is_known = inl (subst (λ (o : SinkState). Tells o out2 line) none is_known)
+  line_follows out0 out1 out2 line (inr part) is_known = inr (
     out1.written,
     part_before out0 out1.written part.1,
-    subst (λ (n : ℕ). Tells (record { written = out1.written; faults = n }) out2 line) part.0 tells,
+    subst (λ (n : ℕ). Tells (record { written = out1.written; faults = n }) out2 line) part.0 is_known,
   )
 
-  pub damage_before : (d2 : DiskState) (fault : DumpFault) → (IsPassing fault → ⊥) → HasCause live (opened_shelf head live d1) (opened_shelf head live d2) fault → IsTrue d0.tells → IsDamaged d0.bytes fault
-  damage_before d2 fault stays cause tells = record {
+  pub damage_before : (d2 : DiskState) (fault : DumpFault) → (IsPassing fault → ⊥) → HasCause live (opened_shelf head live d1) (opened_shelf head live d2) fault → IsTrue d0.is_known → IsDamaged d0.bytes fault
+  damage_before d2 fault stays cause is_known = record {
     head = head;
     live = live;
-    opens = opens tells;
+    opens = opens is_known;
     version = version;
     fault_is = subst (λ (bytes : List ℕ). HasFault head live bytes fault) same.same_bytes
-        (fault_in head live d1.bytes fault (told_cause live (opened_shelf head live d1) (opened_shelf head live d2) fault stays cause (subst IsTrue (sym same.same_tells) tells)));
+        (fault_in head live d1.bytes fault (told_cause live (opened_shelf head live d1) (opened_shelf head live d2) fault stays cause (subst IsTrue (sym same.same_known) is_known)));
   }

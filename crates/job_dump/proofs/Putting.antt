@@ -133,17 +133,17 @@ pub record Completes (shelf : Shelf) (live : Live) (front : List Row) : Type 0 w
 -- one row more
 pub first_more : (shelf : Shelf) (live : Live) (numbers : List ℕ) (id : ℕ) (front : List Row) (row : Row) → AreFirstRows shelf live numbers id front → IsRowOf shelf live numbers id row →
     AreFirstRows shelf live numbers (id + 1) (front ++ row ∷ [])
-first_more shelf live numbers id front row first is tells are =
-    ap (λ (l : List Row). l ++ row ∷ []) (first tells are)
-    ∙ ap (λ (r : Row). rows_from (objects_on (nodes_of shelf.read) are.pages) 0 id ++ r ∷ []) (is tells are)
+first_more shelf live numbers id front row first is is_known are =
+    ap (λ (l : List Row). l ++ row ∷ []) (first is_known are)
+    ∙ ap (λ (r : Row). rows_from (objects_on (nodes_of shelf.read) are.pages) 0 id ++ r ∷ []) (is is_known are)
     ∙ sym (rows_more (objects_on (nodes_of shelf.read) are.pages) id)
 
-module _ (shelf : Shelf) (live : Live) (numbers : List ℕ) (are : IsTrue shelf.tells → ArePlaces (nodes_of shelf.read) live numbers) where
+module _ (shelf : Shelf) (live : Live) (numbers : List ℕ) (are : IsTrue shelf.is_known → ArePlaces (nodes_of shelf.read) live numbers) where
   -- where the places are those of the tree, the rows are the first of it; where the pages do not tell, any rows will do
   completes : (id : ℕ) (front : List Row) → id ≤ live.count → length front ≡ id → AreFirstRows shelf live numbers id front → Completes shelf live front
-  completes id front low long first = split shelf.tells refl
+  completes id front low long first = split shelf.is_known refl
     where
-      split : (b : Bool) → shelf.tells ≡ b → Completes shelf live front
+      split : (b : Bool) → shelf.is_known ≡ b → Completes shelf live front
       split true is =
           let a = are is in
           let os : List LeafEntry = objects_on (nodes_of shelf.read) a.pages in
@@ -153,7 +153,7 @@ module _ (shelf : Shelf) (live : Live) (numbers : List ℕ) (are : IsTrue shelf.
             rest = rest;
             parts = rows_split os 0 id (live.count - id) live.count (omega arith) ∙ ap (λ (l : List Row). l ++ rest) (sym (first is a));
             long = length-rows_from os 0 live.count;
-            are = λ tells. record { pages = a.pages; walk = a.walk; once = a.once; rows_are = refl };
+            are = λ is_known. record { pages = a.pages; walk = a.walk; once = a.once; rows_are = refl };
           }
       split false is =
           let none : Row = (0, []) in
@@ -163,7 +163,7 @@ module _ (shelf : Shelf) (live : Live) (numbers : List ℕ) (are : IsTrue shelf.
             rest = rest;
             parts = refl;
             long = length-append front rest ∙ (let r = length-replicate (live.count - id) none in omega arith);
-            are = λ tells. absurd (true≢false (sym tells ∙ is));
+            are = λ is_known. absurd (true≢false (sym is_known ∙ is));
           }
 
   module _ (old now : SinkState) (text : List ℕ) (id : ℕ) (front : List Row) (low : id ≤ live.count) (some : 1 ≤ live.count) (long : length front ≡ id)
@@ -181,7 +181,7 @@ module _ (shelf : Shelf) (live : Live) (numbers : List ℕ) (are : IsTrue shelf.
     script_put new all put = (
       front,
       all_put old now text live.count front before new put (long ∙ all) some,
-      λ tells.
-          let a = are tells in
-          record { pages = a.pages; walk = a.walk; once = a.once; rows_are = first tells a ∙ ap (rows_from (objects_on (nodes_of shelf.read) a.pages) 0) all },
+      λ is_known.
+          let a = are is_known in
+          record { pages = a.pages; walk = a.walk; once = a.once; rows_are = first is_known a ∙ ap (rows_from (objects_on (nodes_of shelf.read) a.pages) 0) all },
     )

@@ -37,10 +37,10 @@ many_text : (x y : List ℕ) (ys : List (List ℕ)) → row_text default_writer 
 unfolding is_blank_row
 many_text x y ys = refl
 
-line_reads : (words : ℕ) (row : Row) (tail : List ℕ) → 1 ≤ words → IsRow words row → reads (row_line row ++ tail) ≡ Some (row_fields row, st.StartRecord, tail)
-line_reads words row tail some is = from row.1 is.long is.small
+line_reads : (dimension : ℕ) (row : Row) (tail : List ℕ) → 1 ≤ dimension → IsRow dimension row → reads (row_line row ++ tail) ≡ Some (row_fields row, st.StartRecord, tail)
+line_reads dimension row tail some is = from row.1 is.long is.small
   where
-    from : (xs : List ℕ) → length xs ≡ words → AllByRecursion (λ x. x < 2 ^ 32) xs → reads (row_line (row.0, xs) ++ tail) ≡ Some (decimal row.0 ∷ map decimal xs, st.StartRecord, tail)
+    from : (xs : List ℕ) → length xs ≡ dimension → AllByRecursion (λ x. x < 2 ^ 32) xs → reads (row_line (row.0, xs) ++ tail) ≡ Some (decimal row.0 ∷ map decimal xs, st.StartRecord, tail)
     from [] long small = absurd (omega arith)
     from (x ∷ xs) long small =
         let text : row_text default_writer (decimal row.0 ∷ map decimal (x ∷ xs)) ≡ row_line (row.0, x ∷ xs) =
@@ -58,13 +58,13 @@ head_reads count tail low =
     ap (λ (l : List ℕ). reads (l ++ tail)) (sym text) ∙ read-write-many (codes "tload") (decimal count) [] tail
 
 -- the records of lines
-line_records : (words : ℕ) (rows : List Row) (n : ℕ) → 1 ≤ words → AllByRecursion (IsRow words) rows → length rows ≤ n → records_from default_config n st.StartRecord (flat_map row_line rows) ≡ map row_fields rows
+line_records : (dimension : ℕ) (rows : List Row) (n : ℕ) → 1 ≤ dimension → AllByRecursion (IsRow dimension) rows → length rows ≤ n → records_from default_config n st.StartRecord (flat_map row_line rows) ≡ map row_fields rows
 unfolding records_from next_record
-line_records words [] zero some all long = refl
-line_records words [] (suc n) some all long = refl
-line_records words (row ∷ rows) zero some all long = absurd (omega arith)
-line_records words (row ∷ rows) (suc n) some all long =
-    rw (line_reads words row (flat_map row_line rows) some all.0) (ap (λ (t : List Fields). row_fields row ∷ t) (line_records words rows n some all.1 (omega arith)))
+line_records dimension [] zero some all long = refl
+line_records dimension [] (suc n) some all long = refl
+line_records dimension (row ∷ rows) zero some all long = absurd (omega arith)
+line_records dimension (row ∷ rows) (suc n) some all long =
+    rw (line_reads dimension row (flat_map row_line rows) some all.0) (ap (λ (t : List Fields). row_fields row ∷ t) (line_records dimension rows n some all.1 (omega arith)))
 
 -- each line has a byte
 lines_long : (rows : List Row) → length rows ≤ length (flat_map row_line rows)
@@ -75,16 +75,16 @@ lines_long (row ∷ rows) =
     let one = length-append (decimal row.0 ++ coordinates_text row.1) line_end in
     omega arith
 
-whole_records : (words count : ℕ) (rows : List Row) → 1 ≤ words → count < 2 ^ 64 → AllByRecursion (IsRow words) rows →
+whole_records : (dimension count : ℕ) (rows : List Row) → 1 ≤ dimension → count < 2 ^ 64 → AllByRecursion (IsRow dimension) rows →
     records default_config (counted (codes "tload,") count ++ flat_map row_line rows) ≡ head_fields count ∷ map row_fields rows
 unfolding records_from
-whole_records words count rows some low all =
+whole_records dimension count rows some low all =
     let text : List ℕ = counted (codes "tload,") count ++ flat_map row_line rows in
     let next : length text + 1 ≡ suc (length text) = omega arith in
     let long = lines_long rows in
     let size = length-append (counted (codes "tload,") count) (flat_map row_line rows) in
     ap (λ (n : ℕ). records_from default_config n st.StartRecord text) next
-    ∙ rw (head_reads count (flat_map row_line rows) low) (ap (λ (t : List Fields). head_fields count ∷ t) (line_records words rows (length text) some all (omega arith)))
+    ∙ rw (head_reads count (flat_map row_line rows) low) (ap (λ (t : List Fields). head_fields count ∷ t) (line_records dimension rows (length text) some all (omega arith)))
 
 no_bom : (count : ℕ) (rest : List ℕ) → strip_bom (counted (codes "tload,") count ++ rest) ≡ counted (codes "tload,") count ++ rest
 unfolding strip_bom
@@ -92,67 +92,67 @@ no_bom count rest = refl
 
 -- ---- without blanks
 
-rows_shown : (words : ℕ) (rows : List Row) → AllByRecursion (IsRow words) rows → map (λ fields. map without_blanks fields) (map row_fields rows) ≡ map row_fields rows
-rows_shown words [] all = refl
-rows_shown words (row ∷ rows) all =
+rows_shown : (dimension : ℕ) (rows : List Row) → AllByRecursion (IsRow dimension) rows → map (λ fields. map without_blanks fields) (map row_fields rows) ≡ map row_fields rows
+rows_shown dimension [] all = refl
+rows_shown dimension (row ∷ rows) all =
     let here : map without_blanks (row_fields row) ≡ row_fields row =
     ap (λ (l : List ℕ). l ∷ map without_blanks (map decimal row.1)) (number_shown row.0 all.0.tag) ∙ ap (λ (l : Fields). decimal row.0 ∷ l) (point_shown row.1 all.0.small) in
-    ap (λ (l : Fields). l ∷ map (λ fields. map without_blanks fields) (map row_fields rows)) here ∙ ap (λ (l : List Fields). row_fields row ∷ l) (rows_shown words rows all.1)
+    ap (λ (l : Fields). l ∷ map (λ fields. map without_blanks fields) (map row_fields rows)) here ∙ ap (λ (l : List Fields). row_fields row ∷ l) (rows_shown dimension rows all.1)
 
 head_shown : (count : ℕ) → count < 2 ^ 64 → map without_blanks (head_fields count) ≡ head_fields count
 head_shown count low = ap (λ (l : List ℕ). codes "tload" ∷ l ∷ []) (number_shown count low)
 
 -- ---- the rows of a load
 
-row_read : (words : ℕ) (row : Row) → IsRow words row → tag_row_of words (row_fields row) ≡ Some row
-row_read words row is =
+row_read : (dimension : ℕ) (row : Row) → IsRow dimension row → tag_row_of dimension (row_fields row) ≡ Some row
+row_read dimension row is =
     let tag = number_read (2 ^ 64) row.0 is.tag (omega arith) in
-    let long = eq-eqb (length (map decimal row.1)) words (length-map row.1 decimal ∙ is.long) in
+    let long = eq-eqb (length (map decimal row.1)) dimension (length-map row.1 decimal ∙ is.long) in
     let point = point_read row.1 is.small in
     rw (tag, long, point) refl
 
-rows_read : (words : ℕ) (rows : List Row) → AllByRecursion (IsRow words) rows → filter_map (tag_row_of words) (map row_fields rows) ≡ rows
-rows_read words [] all = refl
-rows_read words (row ∷ rows) all = rw (row_read words row all.0) (ap (λ (l : List Row). row ∷ l) (rows_read words rows all.1))
+rows_read : (dimension : ℕ) (rows : List Row) → AllByRecursion (IsRow dimension) rows → filter_map (tag_row_of dimension) (map row_fields rows) ≡ rows
+rows_read dimension [] all = refl
+rows_read dimension (row ∷ rows) all = rw (row_read dimension row all.0) (ap (λ (l : List Row). row ∷ l) (rows_read dimension rows all.1))
 
-none_bad : (words i : ℕ) (rows : List Row) → AllByRecursion (IsRow words) rows → position_from (λ fields. is_none (tag_row_of words fields)) i (map row_fields rows) ≡ None
-none_bad words i [] all = refl
-none_bad words i (row ∷ rows) all = rw (row_read words row all.0) (none_bad words (i + 1) rows all.1)
+none_bad : (dimension i : ℕ) (rows : List Row) → AllByRecursion (IsRow dimension) rows → position_from (λ fields. is_none (tag_row_of dimension fields)) i (map row_fields rows) ≡ None
+none_bad dimension i [] all = refl
+none_bad dimension i (row ∷ rows) all = rw (row_read dimension row all.0) (none_bad dimension (i + 1) rows all.1)
 
 -- the records of the rows start no command
-none_after : (words : ℕ) (recs : List Fields) (n : ℕ) → n ≡ length recs → commands_after words n recs ≡ []
-none_after words [] n is = refl
-none_after words (r ∷ recs) zero is = absurd (omega arith)
-none_after words (r ∷ recs) (suc n) is = none_after words recs n (omega arith)
+none_after : (dimension : ℕ) (recs : List Fields) (n : ℕ) → n ≡ length recs → commands_after dimension n recs ≡ []
+none_after dimension [] n is = refl
+none_after dimension (r ∷ recs) zero is = absurd (omega arith)
+none_after dimension (r ∷ recs) (suc n) is = none_after dimension recs n (omega arith)
 
-load_is : (words count : ℕ) (rows : List Row) → 1 ≤ count → count ≡ length rows → count < 2 ^ 64 → AllByRecursion (IsRow words) rows → command_of words (head_fields count) (map row_fields rows) ≡ load_tagged words rows
-load_is words count rows some long low all =
+load_is : (dimension count : ℕ) (rows : List Row) → 1 ≤ count → count ≡ length rows → count < 2 ^ 64 → AllByRecursion (IsRow dimension) rows → command_of dimension (head_fields count) (map row_fields rows) ≡ load_tagged dimension rows
+load_is dimension count rows some long low all =
     let number = number_read (2 ^ 64) count low (omega arith) in
     let other = ne_eqb count 0 (λ e. omega arith) in
     let size = length-map rows row_fields in
     let enough = le-ltb (length (map row_fields rows)) count (omega arith) in
     let front = take_all count (map row_fields rows) (omega arith) in
-    let read = rows_read words rows all in
-    let none = none_bad words 0 rows all in
+    let read = rows_read dimension rows all in
+    let none = none_bad dimension 0 rows all in
     rw (number, other, enough, front, read, none) refl
 
-load_reads : (words count : ℕ) (rows : List Row) → 1 ≤ count → count ≡ length rows → count < 2 ^ 64 → AllByRecursion (IsRow words) rows →
-    commands_after words 0 (head_fields count ∷ map row_fields rows) ≡ load_tagged words rows ∷ []
-load_reads words count rows some long low all =
+load_reads : (dimension count : ℕ) (rows : List Row) → 1 ≤ count → count ≡ length rows → count < 2 ^ 64 → AllByRecursion (IsRow dimension) rows →
+    commands_after dimension 0 (head_fields count ∷ map row_fields rows) ≡ load_tagged dimension rows ∷ []
+load_reads dimension count rows some long low all =
     let number = number_read (2 ^ 64) count low (omega arith) in
     let used : rows_used (head_fields count) ≡ count = rw number refl in
     let size = length-map rows row_fields in
-    ap (λ c. c ∷ commands_after words (rows_used (head_fields count)) (map row_fields rows)) (load_is words count rows some long low all)
-    ∙ ap (λ (n : ℕ). load_tagged words rows ∷ commands_after words n (map row_fields rows)) used
-    ∙ ap (λ l. load_tagged words rows ∷ l) (none_after words (map row_fields rows) count (omega arith))
+    ap (λ c. c ∷ commands_after dimension (rows_used (head_fields count)) (map row_fields rows)) (load_is dimension count rows some long low all)
+    ∙ ap (λ (n : ℕ). load_tagged dimension rows ∷ commands_after dimension n (map row_fields rows)) used
+    ∙ ap (λ l. load_tagged dimension rows ∷ l) (none_after dimension (map row_fields rows) count (omega arith))
 
 pub scripts_read_back : ScriptsReadBack
-scripts_read_back words row rows some low all =
+scripts_read_back dimension row rows some low all =
     let every : List Row = row ∷ rows in
     let count : ℕ = length every in
     let shown : script_records (script_text every) ≡ head_fields count ∷ map row_fields every =
     ap (λ (l : List ℕ). map (λ fields. map without_blanks fields) (records default_config l)) (no_bom count (flat_map row_line every))
-    ∙ ap (map (λ fields. map without_blanks fields)) (whole_records words count every some low all)
+    ∙ ap (map (λ fields. map without_blanks fields)) (whole_records dimension count every some low all)
     ∙ ap (λ (l : Fields). l ∷ map (λ fields. map without_blanks fields) (map row_fields every)) (head_shown count low)
-    ∙ ap (λ (l : List Fields). head_fields count ∷ l) (rows_shown words every all) in
-    ap (commands_after words 0) shown ∙ load_reads words count every (omega arith) refl low all
+    ∙ ap (λ (l : List Fields). head_fields count ∷ l) (rows_shown dimension every all) in
+    ap (commands_after dimension 0) shown ∙ load_reads dimension count every (omega arith) refl low all

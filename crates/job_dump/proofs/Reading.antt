@@ -40,33 +40,33 @@ row_is nodes live numbers id e are low stands =
 
 module _ (shelf : Shelf) (numbers : List ℕ) (id leaf number : ℕ) (page_is : leaf ≡ slice_index numbers id / 32) (number_is : number ≡ slice_index numbers id % 32) where
   -- the entry of a page's node
-  entry_is : (node : Node) → IsNodeOf shelf leaf node → IsTrue shelf.tells → entry_at (nodes_of shelf.read) (slice_index numbers id) ≡ slice_get (leaf_entries (Some node)) number
-  entry_is node is tells =
+  entry_is : (node : Node) → IsNodeOf shelf leaf node → IsTrue shelf.is_known → entry_at (nodes_of shelf.read) (slice_index numbers id) ≡ slice_get (leaf_entries (Some node)) number
+  entry_is node is is_known =
       ap (λ (p : ℕ). slice_get (leaf_entries (nodes_of shelf.read p)) (slice_index numbers id % 32)) (sym page_is)
-      ∙ ap (λ (o : Option Node). slice_get (leaf_entries o) (slice_index numbers id % 32)) (ap node_or_none (is.told tells))
+      ∙ ap (λ (o : Option Node). slice_get (leaf_entries o) (slice_index numbers id % 32)) (ap node_or_none (is.told is_known))
       ∙ ap (slice_get (leaf_entries (Some node))) (sym number_is)
 
   -- the row of an entry that was read
   pub row_read : (node : Node) (e : LeafEntry) → IsNodeOf shelf leaf node → slice_get (leaf_entries (Some node)) number ≡ Some e → (live : Live) → id < live.count → IsRowOf shelf live numbers id (e.tag, e.point)
-  row_read node e is there live low tells are = row_is (nodes_of shelf.read) live numbers id e are low (entry_is node is tells ∙ there)
+  row_read node e is there live low is_known are = row_is (nodes_of shelf.read) live numbers id e are low (entry_is node is is_known ∙ there)
 
 -- ---- over pages that hold what they held
 
 module _ (old now : Shelf) (same : HoldsSame old now) (live : Live) (numbers : List ℕ) where
   pub row_before : (id : ℕ) (row : ℕ × List ℕ) → IsRowOf now live numbers id row → IsRowOf old live numbers id row
-  row_before id row is tells =
-      subst (λ (read : Read). (are : ArePlaces (nodes_of read) live numbers) → row ≡ row_of (objects_on (nodes_of read) are.pages) id) same.read (is (rw same.tells tells))
+  row_before id row is is_known =
+      subst (λ (read : Read). (are : ArePlaces (nodes_of read) live numbers) → row ≡ row_of (objects_on (nodes_of read) are.pages) id) same.read (is (rw same.is_known is_known))
 
   -- why an object was not read again
-  module _ (new : Shelf) (out0 out1 : SinkState) (are : IsTrue old.tells → ArePlaces (nodes_of old.read) live numbers) where
-    never : {P : Type 0} → (IsTrue now.tells → ¬ ArePlaces (nodes_of now.read) live numbers) → IsTrue old.tells → P
-    never lost tells = absurd (lost (rw same.tells tells) (subst (λ (read : Read). ArePlaces (nodes_of read) live numbers) (sym same.read) (are tells)))
+  module _ (new : Shelf) (out0 out1 : SinkState) (are : IsTrue old.is_known → ArePlaces (nodes_of old.read) live numbers) where
+    never : {P : Type 0} → (IsTrue now.is_known → ¬ ArePlaces (nodes_of now.read) live numbers) → IsTrue old.is_known → P
+    never lost is_known = absurd (lost (rw same.is_known is_known) (subst (λ (read : Read). ArePlaces (nodes_of read) live numbers) (sym same.read) (are is_known)))
 
-    pub later_cause : (fault : DumpFault) → HasReadCause live numbers now new fault → HasCause live old new fault × (IsTrue old.tells → (IsPassing fault → ⊥) → out1 ≡ out0)
-    later_cause (dump.Page page.Disk) cause = (rose_before old.faults now.faults new.faults same.faults cause, λ tells stays. absurd (stays tt))
-    later_cause (dump.Page page.Memory) cause = (tt, λ tells stays. absurd (stays tt))
-    later_cause (dump.Page (page.Bad p f)) cause = (never cause, λ tells stays. never cause tells)
-    later_cause (dump.Page (page.Outside p)) cause = (never cause, λ tells stays. never cause tells)
-    later_cause (dump.Page (page.Repeats p)) cause = (never cause, λ tells stays. never cause tells)
-    later_cause (dump.Page (page.Level p)) cause = (never cause, λ tells stays. never cause tells)
-    later_cause (dump.Id id) cause = (never cause, λ tells stays. never cause tells)
+    pub later_cause : (fault : DumpFault) → HasReadCause live numbers now new fault → HasCause live old new fault × (IsTrue old.is_known → (IsPassing fault → ⊥) → out1 ≡ out0)
+    later_cause (dump.Page page.Disk) cause = (rose_before old.faults now.faults new.faults same.faults cause, λ is_known stays. absurd (stays tt))
+    later_cause (dump.Page page.Memory) cause = (tt, λ is_known stays. absurd (stays tt))
+    later_cause (dump.Page (page.Bad p f)) cause = (never cause, λ is_known stays. never cause is_known)
+    later_cause (dump.Page (page.Outside p)) cause = (never cause, λ is_known stays. never cause is_known)
+    later_cause (dump.Page (page.Repeats p)) cause = (never cause, λ is_known stays. never cause is_known)
+    later_cause (dump.Page (page.Level p)) cause = (never cause, λ is_known stays. never cause is_known)
+    later_cause (dump.Id id) cause = (never cause, λ is_known stays. never cause is_known)

@@ -29,28 +29,28 @@ notes_more nodes numbers opened page node is notes =
 pub page_cause : (live : Live) (old new : Shelf) (fault : PageFault) → HasTourCause live old new fault → HasCause live old new (dump.Page fault)
 page_cause live old new page.Disk cause = cause
 page_cause live old new page.Memory cause = tt
-page_cause live old new (page.Bad p f) cause = λ tells. record { is = cause.2 tells; unsound = λ s sound. tour_passes s live old new (page.Bad p f) cause tells sound }
-page_cause live old new (page.Outside p) cause = λ tells. record { is = cause.1 tells; unsound = λ s sound. tour_passes s live old new (page.Outside p) cause tells sound }
-page_cause live old new (page.Repeats p) cause = λ tells. record { is = cause.1 tells; unsound = λ s sound. tour_passes s live old new (page.Repeats p) cause tells sound }
+page_cause live old new (page.Bad p f) cause = λ is_known. record { is = cause.2 is_known; unsound = λ s sound. tour_passes s live old new (page.Bad p f) cause is_known sound }
+page_cause live old new (page.Outside p) cause = λ is_known. record { is = cause.1 is_known; unsound = λ s sound. tour_passes s live old new (page.Outside p) cause is_known sound }
+page_cause live old new (page.Repeats p) cause = λ is_known. record { is = cause.1 is_known; unsound = λ s sound. tour_passes s live old new (page.Repeats p) cause is_known sound }
 page_cause live old new (page.Level p) cause = absurd cause
 
 module _ (toured : SoundTreesAreToured) (live : Live) (old new : Shelf) (numbers : List ℕ) (long : length numbers ≡ live.count) where
   -- an object of the page that was opened last is one too many
-  pub many_cause : (opened left : List ℕ) (page : ℕ) (node : Node) (id : ℕ) → (IsTrue old.tells → nodes_of old.read page ≡ Some node) →
-      (IsTrue old.tells → Tours (nodes_of old.read) (live.root ∷ []) (opened ++ page ∷ []) left) →
-      (IsTrue old.tells → due (length numbers) id < times_among (objects_on (nodes_of old.read) opened ++ leaf_entries (Some node)) id) → HasCause live old new (dump.Id id)
-  many_cause opened left page node id is walk many = λ tells.
+  pub many_cause : (opened left : List ℕ) (page : ℕ) (node : Node) (id : ℕ) → (IsTrue old.is_known → nodes_of old.read page ≡ Some node) →
+      (IsTrue old.is_known → Tours (nodes_of old.read) (live.root ∷ []) (opened ++ page ∷ []) left) →
+      (IsTrue old.is_known → due (length numbers) id < times_among (objects_on (nodes_of old.read) opened ++ leaf_entries (Some node)) id) → HasCause live old new (dump.Id id)
+  many_cause opened left page node id is walk many = λ is_known.
       let met : objects_on (nodes_of old.read) opened ++ leaf_entries (Some node) ≡ objects_on (nodes_of old.read) (opened ++ page ∷ []) =
-      ap (λ o. objects_on (nodes_of old.read) opened ++ leaf_entries o) (sym (is tells)) ∙ sym (objects_more (nodes_of old.read) opened page) in
+      ap (λ o. objects_on (nodes_of old.read) opened ++ leaf_entries o) (sym (is is_known)) ∙ sym (objects_more (nodes_of old.read) opened page) in
       let wrong = subst (λ (n : ℕ). due n id < times_among (objects_on (nodes_of old.read) (opened ++ page ∷ [])) id) long
-      (subst (λ (os : List LeafEntry). due (length numbers) id < times_among os id) met (many tells)) in
-      let out : IsOutOfPlace (nodes_of old.read) live id = record { pages = opened ++ page ∷ []; left = left; walk = walk tells; wrong = inl wrong } in
+      (subst (λ (os : List LeafEntry). due (length numbers) id < times_among os id) met (many is_known)) in
+      let out : IsOutOfPlace (nodes_of old.read) live id = record { pages = opened ++ page ∷ []; left = left; walk = walk is_known; wrong = inl wrong } in
       record { is = out; unsound = λ s sound. in_place (nodes_of old.read) s toured live id sound out }
 
   -- an object was not met
-  pub missing_cause : (id : ℕ) → (IsTrue old.tells → IsNoted (nodes_of old.read) live numbers) → id < length numbers → slice_index numbers id ≡ 0 → HasCause live old new (dump.Id id)
-  missing_cause id noted low none = λ tells.
-      let n = noted tells in
+  pub missing_cause : (id : ℕ) → (IsTrue old.is_known → IsNoted (nodes_of old.read) live numbers) → id < length numbers → slice_index numbers id ≡ 0 → HasCause live old new (dump.Id id)
+  missing_cause id noted low none = λ is_known.
+      let n = noted is_known in
       let less = one_missing (nodes_of old.read) numbers (objects_on (nodes_of old.read) n.pages) id n.notes low none in
       let wrong = subst (λ (k : ℕ). times_among (objects_on (nodes_of old.read) n.pages) id < due k id) long less in
       let out : IsOutOfPlace (nodes_of old.read) live id = record { pages = n.pages; left = []; walk = n.walk; wrong = inr (refl, wrong) } in

@@ -45,7 +45,7 @@ module _ (nodes : Nodes) where
 
   module _ (s : Space) where
     abbrev IsBelow : ℕ → Option (List ℕ) → InnerEntry → Type 0
-    IsBelow h above e = IsSoundEntry s above (objects_at nodes h e.child) e × IsSoundAt s nodes h (least_for s.words) (Some e.point) e.child
+    IsBelow h above e = IsSoundEntry s above (objects_at nodes h e.child) e × IsSoundAt s nodes h (least_for s.dimension) (Some e.point) e.child
 
     -- the walk meets these objects, and then goes on to the pages `ps`
     abbrev Meets : List LeafEntry → List ℕ → List ℕ → Type 0
@@ -74,7 +74,7 @@ module _ (nodes : Nodes) where
     meets (suc h) least above page sound ps (o ∷ os) walk =
         let es : List InnerEntry = sound.0 in
         let node = same_some nodes page walk.0 (Inner (suc h) es) walk.1 sound.1 in
-        let rest = meets_entries h above (λ e both. meets h (least_for s.words) (Some e.point) e.child both.1) es sound.3 ps os
+        let rest = meets_entries h above (λ e both. meets h (least_for s.dimension) (Some e.point) e.child both.1) es sound.3 ps os
         (subst (λ (m : Node). Tours nodes (children m ++ ps) os []) node walk.3) in (
           rest.0,
           rest.1,

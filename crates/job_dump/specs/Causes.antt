@@ -45,11 +45,11 @@ pub record HasFaultOf (read : Read) (live : Live) (fault : DumpFault) : Type 0 w
 abbrev pub HasCause : Live → Shelf → Shelf → DumpFault → Type 0
 HasCause live old new (dump.Page page.Disk) = Rose old.faults new.faults
 HasCause live old new (dump.Page page.Memory) = Unit {0}
-HasCause live old new fault = IsTrue old.tells → HasFaultOf old.read live fault
+HasCause live old new fault = IsTrue old.is_known → HasFaultOf old.read live fault
 
 -- rows of the tree's objects, where the pages tell what they hold
 abbrev pub AreRows : Shelf → Live → List (ℕ × List ℕ) → Type 0
-AreRows shelf live rows = IsTrue shelf.tells → HasRows (nodes_of shelf.read) live rows
+AreRows shelf live rows = IsTrue shelf.is_known → HasRows (nodes_of shelf.read) live rows
 
 -- the whole script was put, or a front of it
 abbrev pub PutsScript : Shelf → Live → Option (List ℕ) → Option (List ℕ) → Type 0
@@ -66,4 +66,4 @@ MayPut shelf live old new = (new ≡ old) ⊎ ((new.faults ≡ old.faults) × Pu
 abbrev pub HasStop : Live → Shelf → Shelf → SinkState → SinkState → DumpStop → Type 0
 HasStop live old new out0 out1 stop.Sink = PutsFront old live out0.written out1.written × Rose out0.faults out1.faults
 HasStop live old new out0 out1 (stop.Fault fault) =
-    MayPut old live out0 out1 × HasCause live old new fault × (IsTrue old.tells → (IsPassing fault → ⊥) → out1 ≡ out0)
+    MayPut old live out0 out1 × HasCause live old new fault × (IsTrue old.is_known → (IsPassing fault → ⊥) → out1 ≡ out0)

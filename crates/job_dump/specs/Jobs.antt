@@ -56,7 +56,7 @@ pub record IsDamaged (file : List ℕ) (fault : DumpFault) : Type 0 where
 pub record PutsPart (disk : DiskState) (old : SinkState) (middle : Option (List ℕ)) : Type 0 where
   pub rows : List (ℕ × List ℕ)
   pub put : AppendsPrefix old.written middle (script_text rows)
-  pub are : IsTrue disk.tells → HoldsRows disk.bytes rows
+  pub are : IsTrue disk.is_known → HoldsRows disk.bytes rows
 
 -- a line was told, at once or after a front of the script
 abbrev pub Follows : DiskState → SinkState → SinkState → List ℕ → Type 0
@@ -67,17 +67,17 @@ Follows disk old new line =
 pub record Dumps (disk0 disk1 : DiskState) (out0 out1 : SinkState) (status : ℕ) : Type 0 where
   pub unchanged : IsUnchanged disk0 disk1
   pub done : status ≡ 0 → (rows : List (ℕ × List ℕ)) × Appends out0.written out1.written (script_text rows)
-      × (IsTrue disk0.tells → HoldsRows disk0.bytes rows)
+      × (IsTrue disk0.is_known → HoldsRows disk0.bytes rows)
   pub part : status ≡ 4 → PutsPart disk0 out0 out1.written
   -- before the first line, or after a front of the script
   pub disk : status ≡ 5 → Rose disk0.faults disk1.faults × Follows disk0 out0 out1 (codes "fault disk\n")
-  pub not_index : status ≡ 6 → (name : List ℕ) × Tells out0 out1 (not_index_text name) × (IsTrue disk0.tells → IsNoIndex disk0.bytes name)
+  pub not_index : status ≡ 6 → (name : List ℕ) × Tells out0 out1 (not_index_text name) × (IsTrue disk0.is_known → IsNoIndex disk0.bytes name)
   pub memory : status ≡ 8 → Follows disk0 out0 out1 (codes "fault memory\n")
   -- nothing was put before, where the disk tells its bytes; a disk that does not may hold other bytes when a page is read again
   pub damaged : status ≡ 9 → (fault : DumpFault) × Follows disk0 out0 out1 (fault_text fault)
-      × (IsTrue disk0.tells → Tells out0 out1 (fault_text fault) × IsDamaged disk0.bytes fault)
+      × (IsTrue disk0.is_known → Tells out0 out1 (fault_text fault) × IsDamaged disk0.bytes fault)
   -- a sound file gives neither status 6 nor status 9
-  pub sound : IsTrue disk0.tells → (head : Head) (live : Live) → IsSound head live disk0.bytes → (status ≢ 6) × (status ≢ 9)
+  pub sound : IsTrue disk0.is_known → (head : Head) (live : Live) → IsSound head live disk0.bytes → (status ≢ 6) × (status ≢ 9)
 
 abbrev pub IsDumpStatus : ℕ → Type 0
 IsDumpStatus n = (n ≡ 0) ⊎ ((n ≡ 4) ⊎ ((n ≡ 5) ⊎ ((n ≡ 6) ⊎ ((n ≡ 8) ⊎ (n ≡ 9)))))

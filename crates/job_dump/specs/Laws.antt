@@ -11,17 +11,17 @@ use Rattle.job_files.specs.Spaces.{space_of}
 use Rattle.job_dump.specs.Rows.{HasRows}
 use Rattle.job_dump.specs.Scripts.{script_text}
 
--- a tag and a point of `words` coordinates, as a file holds them
-pub record IsRow (words : ℕ) (row : ℕ × List ℕ) : Type 0 where
+-- a tag and a point of `dimension` coordinates, as a file holds them
+pub record IsRow (dimension : ℕ) (row : ℕ × List ℕ) : Type 0 where
   pub tag : row.0 < 2 ^ 64
-  pub long : length row.1 ≡ words
+  pub long : length row.1 ≡ dimension
   pub small : AllByRecursion (λ x. x < 2 ^ 32) row.1
 
 -- a script of objects is read as one load of them
 abbrev pub ScriptsReadBack : Type 0
 ScriptsReadBack =
-    (words : ℕ) (row : ℕ × List ℕ) (rows : List (ℕ × List ℕ)) → 1 ≤ words → length (row ∷ rows) < 2 ^ 64 →
-    AllByRecursion (IsRow words) (row ∷ rows) → script words (script_text (row ∷ rows)) ≡ load_tagged words (row ∷ rows) ∷ []
+    (dimension : ℕ) (row : ℕ × List ℕ) (rows : List (ℕ × List ℕ)) → 1 ≤ dimension → length (row ∷ rows) < 2 ^ 64 →
+    AllByRecursion (IsRow dimension) (row ∷ rows) → script dimension (script_text (row ∷ rows)) ≡ load_tagged dimension (row ∷ rows) ∷ []
 
 -- the space and the limit of a head
 abbrev pub setting_of : Head → Setting

@@ -28,16 +28,16 @@ pub record IsWriting (old now : SinkState) (text : List ℕ) (count : ℕ) (fron
 -- the row of the object that stands at the id's place
 abbrev pub IsRowOf : Shelf → Live → List ℕ → ℕ → ℕ × List ℕ → Type 0
 IsRowOf shelf live numbers id row =
-    IsTrue shelf.tells → (are : ArePlaces (nodes_of shelf.read) live numbers) → row ≡ row_of (objects_on (nodes_of shelf.read) are.pages) id
+    IsTrue shelf.is_known → (are : ArePlaces (nodes_of shelf.read) live numbers) → row ≡ row_of (objects_on (nodes_of shelf.read) are.pages) id
 
 -- the rows of the objects that stand at the first places
 abbrev pub AreFirstRows : Shelf → Live → List ℕ → ℕ → List (ℕ × List ℕ) → Type 0
 AreFirstRows shelf live numbers count front =
-    IsTrue shelf.tells → (are : ArePlaces (nodes_of shelf.read) live numbers) →
+    IsTrue shelf.is_known → (are : ArePlaces (nodes_of shelf.read) live numbers) →
     front ≡ rows_from (objects_on (nodes_of shelf.read) are.pages) 0 count
 
 -- why an object that has a place could not be read: the disk failed, or memory ran out; nothing else, where the pages tell
 abbrev pub HasReadCause : Live → List ℕ → Shelf → Shelf → DumpFault → Type 0
 HasReadCause live numbers old new (dump.Page page.Disk) = Rose old.faults new.faults
 HasReadCause live numbers old new (dump.Page page.Memory) = Unit {0}
-HasReadCause live numbers old new fault = IsTrue old.tells → ¬ ArePlaces (nodes_of old.read) live numbers
+HasReadCause live numbers old new fault = IsTrue old.is_known → ¬ ArePlaces (nodes_of old.read) live numbers

@@ -3,7 +3,7 @@ ghost use Rattle.std.specs.Prelude.{◌≡◌, ◌⊎◌, ◌≤◌, ◌^◌, If
 ghost use Rattle.outside_io.specs.Causes.{Rose};
 ghost use Rattle.outside_io.specs.Sinks.{Tells};
 ghost use Rattle.disk_model.specs.Disk.{IsUnchanged};
-ghost use Rattle.node_page.specs.Heads.{IsLawfulHead};
+ghost use Rattle.node_page.specs.Heads.{IsValidHead};
 ghost use Rattle.job_dump.specs.Causes.{HasStop, IsPassing, PutsScript};
 ghost use Rattle.job_dump.specs.Jobs.{Dumps, IsDumpStatus, fault_text, opened_shelf};
 
@@ -29,7 +29,7 @@ fn dump_opened<D: Disk, K: Sink>(
     live: &Live,
     out: &mut K,
 ) -> Result<(), DumpStop>
-    requires head { IsLawfulHead head.now }
+    requires head { IsValidHead head.now }
     requires pages { live.now.pages ≤ 2 ^ 24 }
     ensures same { IsUnchanged (D.state disk.old) (D.state disk.new) }
     ensures done { OnOk result (PutsScript (opened_shelf head.now live.now (D.state disk.old)) live.now

@@ -121,7 +121,7 @@ fn note_tree<P: Pages>(
     requires none { (id : ℕ) → slice_index numbers.old id ≡ 0 }
     ensures same { HoldsSame (P.shelf pages.old) (P.shelf pages.new) }
     ensures keeps { P.keeps pages.old pages.new }
-    ensures noted { OnOk result (IsTrue (P.shelf pages.old).tells → IsNoted (nodes_of (P.shelf pages.old).read) live.now numbers.new) }
+    ensures noted { OnOk result (IsTrue (P.shelf pages.old).is_known → IsNoted (nodes_of (P.shelf pages.old).read) live.now numbers.new) }
     ensures cause { IfErr result (HasCause live.now (P.shelf pages.old) (P.shelf pages.new)) }
 {
     sound_trees_are_toured();
@@ -144,7 +144,7 @@ pub fn places_of<P: Pages>(alloc: Global, pages: &mut P, live: &Live) -> Result<
     ensures same { HoldsSame (P.shelf pages.old) (P.shelf pages.new) }
     ensures keeps { P.keeps pages.old pages.new }
     ensures long { IfOk result (λ places. length places ≡ live.now.count) }
-    ensures places { IfOk result (λ places. IsTrue (P.shelf pages.old).tells →
+    ensures places { IfOk result (λ places. IsTrue (P.shelf pages.old).is_known →
         ArePlaces (nodes_of (P.shelf pages.old).read) live.now places) }
     ensures cause { IfErr result (HasCause live.now (P.shelf pages.old) (P.shelf pages.new)) }
 {

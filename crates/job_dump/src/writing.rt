@@ -101,7 +101,7 @@ fn write_rows<P: Pages, K: Sink>(
 ) -> Result<(), DumpStop>
     requires some { 1 ≤ live.now.count }
     requires long { length places.now ≡ live.now.count }
-    requires are { IsTrue (P.shelf pages.old).tells → ArePlaces (nodes_of (P.shelf pages.old).read) live.now places.now }
+    requires are { IsTrue (P.shelf pages.old).is_known → ArePlaces (nodes_of (P.shelf pages.old).read) live.now places.now }
     ensures same { HoldsSame (P.shelf pages.old) (P.shelf pages.new) }
     ensures keeps { P.keeps pages.old pages.new }
     ensures done { OnOk result (PutsScript (P.shelf pages.old) live.now (K.state out.old).written (K.state out.new).written) }

@@ -2,7 +2,7 @@
 
 -- Statuses that are not.
 pub use Rattle.job_files.proofs.Statuses.{neither}
--- What a lawful head says of its space.
+-- What a valid head says of its space.
 pub use Rattle.job_files.proofs.Spaces.{space_by_head}
 -- How an audit ends, by what its parts told.
 pub use Rattle.job_files.proofs.Ends.{no_index, rose_by_disk, told_by, audit_rose, only, none_of_three, none_of_four, is_first, audited_before, sound_before}

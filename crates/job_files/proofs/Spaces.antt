@@ -1,8 +1,8 @@
--- What a lawful head says of its space.
+-- What a valid head says of its space.
 use Rattle.std.proofs.Common.{◌≡◌, ◌⊎◌, ⊎_elim, ℕ, ◌%◌, ◌<◌, ◌≤◌, ◌==◌, ◌&&◌, ◌||◌, not, nat_le, Bool, true, false, if◌then◌else◌, refl, sym, arith}
 use Rattle.std.proofs.lemmas.Bool.{leb-true, true≢false}
 use Rattle.node_page.specs.Heads.{is_space}
-use Rattle.metric_mix.specs.MixSpaces.{is_lawful}
+use Rattle.metric_mix.specs.MixSpaces.{is_valid}
 
 five : (a b c d e : Bool) → (a && b && c && d && e) ≡ true → (a ≡ true) × (b ≡ true) × (c ≡ true) × (d ≡ true) × (e ≡ true)
 five true true true true true is = (refl, refl, refl, refl, refl)
@@ -21,7 +21,7 @@ pub record HasSpace (kind dim : ℕ) : Type 0 where
   pub high_kind : kind ≤ 8
   pub low_dim : 1 ≤ dim
   pub high_dim : dim ≤ 64
-  pub lawful : is_lawful kind dim ≡ true
+  pub valid : is_valid kind dim ≡ true
 
 pub space_by_head : (kind dim : ℕ) → is_space kind dim ≡ true → HasSpace kind dim
 unfolding is_space
@@ -32,7 +32,7 @@ space_by_head kind dim is =
       high_kind = leb-true kind 8 each.1;
       low_dim = leb-true 1 dim each.2;
       high_dim = leb-true dim 64 each.3;
-      lawful = rw (each.2, each.3) (halves ((kind == 6) || (kind == 7)) (dim % 2 == 0) each.4);
+      valid = rw (each.2, each.3) (halves ((kind == 6) || (kind == 7)) (dim % 2 == 0) each.4);
     }
 
 -- a number of such a space is refused by neither test

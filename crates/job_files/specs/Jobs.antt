@@ -23,13 +23,13 @@ use Rattle.job_files.specs.Lines.{unopened_name, sound_text, rejected_text, not_
 -- what stands on the disk and on out when `create` ends
 pub record Creates (head : Head) (disk0 disk1 : DiskState) (out0 out1 : SinkState) (status : ℕ) : Type 0 where
   -- the file is a sound empty index, in every image of a crash
-  pub made : (status ≡ 0) ⊎ (status ≡ 4) → (IsTrue disk0.tells → (length disk0.bytes ≡ 0) × IsMade head disk1.bytes) × LeavesOnly disk1 disk1.bytes
+  pub made : (status ≡ 0) ⊎ (status ≡ 4) → (IsTrue disk0.is_known → (length disk0.bytes ≡ 0) × IsMade head disk1.bytes) × LeavesOnly disk1 disk1.bytes
   pub done : status ≡ 0 → Appends out0.written out1.written (codes "created\n")
   pub part : status ≡ 4 → AppendsPrefix out0.written out1.written (codes "created\n")
   -- the disk failed
   pub disk : status ≡ 5 → Rose disk0.faults disk1.faults × Tells out0 out1 (codes "fault disk\n")
   -- the file held something, and holds it still
-  pub not_empty : status ≡ 6 → (IsTrue disk0.tells → 0 < length disk0.bytes) × IsUnchanged disk0 disk1 × Tells out0 out1 (codes "fault notindex notempty\n")
+  pub not_empty : status ≡ 6 → (IsTrue disk0.is_known → 0 < length disk0.bytes) × IsUnchanged disk0 disk1 × Tells out0 out1 (codes "fault notindex notempty\n")
   pub memory : status ≡ 8 → IsUnchanged disk0 disk1 × Tells out0 out1 (codes "fault memory\n")
 
 -- ---- opening
@@ -47,7 +47,7 @@ IsNoIndex file name =
 -- an index was not opened: the disk failed, or the file is no index of version 2
 pub record Refuses (disk0 disk1 : DiskState) (out0 out1 : SinkState) (status : ℕ) : Type 0 where
   pub disk : status ≡ 5 → Rose disk0.faults disk1.faults × Tells out0 out1 (codes "fault disk\n")
-  pub not_index : status ≡ 6 → (name : List ℕ) × Tells out0 out1 (not_index_text name) × (IsTrue disk0.tells → IsNoIndex disk0.bytes name)
+  pub not_index : status ≡ 6 → (name : List ℕ) × Tells out0 out1 (not_index_text name) × (IsTrue disk0.is_known → IsNoIndex disk0.bytes name)
   pub statuses : (status ≡ 5) ⊎ (status ≡ 6)
 
 -- ---- audit
@@ -70,16 +70,16 @@ pub record IsSoundWith (file : List ℕ) (objects nodes : ℕ) : Type 0 where
 pub record Audits (disk0 disk1 : DiskState) (out0 out1 : SinkState) (status : ℕ) : Type 0 where
   pub unchanged : IsUnchanged disk0 disk1
   pub sound : status ≡ 0 → (objects : ℕ) × (nodes : ℕ) × Appends out0.written out1.written (sound_text objects nodes)
-      × (IsTrue disk0.tells → IsSoundWith disk0.bytes objects nodes)
+      × (IsTrue disk0.is_known → IsSoundWith disk0.bytes objects nodes)
   pub rejected : status ≡ 1 → (fault : AuditFault) × Appends out0.written out1.written (rejected_text fault)
-      × (IsTrue disk0.tells → IsAudited disk0.bytes (Some fault))
+      × (IsTrue disk0.is_known → IsAudited disk0.bytes (Some fault))
   -- a front of the lines
   pub part : status ≡ 4 →
       ((objects : ℕ) × (nodes : ℕ) × AppendsPrefix out0.written out1.written (sound_text objects nodes)
-      × (IsTrue disk0.tells → IsSoundWith disk0.bytes objects nodes))
-      ⊎ ((fault : AuditFault) × AppendsPrefix out0.written out1.written (rejected_text fault) × (IsTrue disk0.tells → IsAudited disk0.bytes (Some fault)))
+      × (IsTrue disk0.is_known → IsSoundWith disk0.bytes objects nodes))
+      ⊎ ((fault : AuditFault) × AppendsPrefix out0.written out1.written (rejected_text fault) × (IsTrue disk0.is_known → IsAudited disk0.bytes (Some fault)))
   pub disk : status ≡ 5 → Rose disk0.faults disk1.faults × Tells out0 out1 (codes "fault disk\n")
-  pub not_index : status ≡ 6 → (name : List ℕ) × Tells out0 out1 (not_index_text name) × (IsTrue disk0.tells → IsNoIndex disk0.bytes name)
+  pub not_index : status ≡ 6 → (name : List ℕ) × Tells out0 out1 (not_index_text name) × (IsTrue disk0.is_known → IsNoIndex disk0.bytes name)
   pub memory : status ≡ 8 → Tells out0 out1 (codes "fault memory\n")
 
 -- why an audit of a file on a disk failed, where the disk counts `faults` faults now
@@ -89,7 +89,7 @@ HasFault old faults told (audit.Page page.Disk) = Rose old.faults faults
 HasFault old faults told (audit.Page page.Memory) = ⊥
 HasFault old faults told (audit.Page (page.Repeats p)) = ⊥
 HasFault old faults told (audit.Page (page.Level p)) = ⊥
-HasFault old faults told fault = IsTrue old.tells → told ≡ Some fault
+HasFault old faults told fault = IsTrue old.is_known → told ≡ Some fault
 
 -- a failure of the disk or out of memory, which no bytes tell
 abbrev pub IsPassing : AuditFault → Type 0

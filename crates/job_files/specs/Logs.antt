@@ -1,5 +1,5 @@
 pub mod Lines
 pub mod Files
-pub mod Sayings
+pub mod JobReports
 pub mod Jobs
 pub mod Laws

@@ -10,7 +10,7 @@ use Rattle.node_page.specs.Opening.{OpensTo}
 abbrev pub ReadsOnce : (ℕ → ℕ) → DiskState → DiskState → Type 0
 ReadsOnce more disk0 disk1 =
     (disk1.reads ≤ disk0.reads + 3)
-    ⊎ ((head : Head) × (live : Live) × (IsTrue disk0.tells → OpensTo disk0.bytes head live) × (head.version ≡ 2) × (live.pages ≤ 2 ^ 24)
+    ⊎ ((head : Head) × (live : Live) × (IsTrue disk0.is_known → OpensTo disk0.bytes head live) × (head.version ≡ 2) × (live.pages ≤ 2 ^ 24)
     × (disk1.reads ≤ disk0.reads + (3 + more live.pages)))
 
 -- an audit reads each page once at the most

@@ -64,24 +64,24 @@ pub record Shapes (disk0 disk1 : DiskState) (out0 out1 : SinkState) (status : �
   pub unchanged : IsUnchanged disk0 disk1
   pub done : status ≡ 0 →
       (height : ℕ) × (objects : ℕ) × (lines : List ShapeLine) × Appends out0.written out1.written (shape_text height objects lines)
-      × (IsTrue disk0.tells → IsShapeOf disk0.bytes height objects lines)
+      × (IsTrue disk0.is_known → IsShapeOf disk0.bytes height objects lines)
   -- a front of the lines
   pub part : status ≡ 4 →
       (height : ℕ) × (objects : ℕ) × (lines : List ShapeLine) × AppendsPrefix out0.written out1.written (shape_text height objects lines)
-      × (IsTrue disk0.tells → IsShapeOf disk0.bytes height objects lines)
+      × (IsTrue disk0.is_known → IsShapeOf disk0.bytes height objects lines)
   pub disk : status ≡ 5 → Rose disk0.faults disk1.faults × Tells out0 out1 (codes "fault disk\n")
-  pub not_index : status ≡ 6 → (name : List ℕ) × Tells out0 out1 (not_index_text name) × (IsTrue disk0.tells → IsNoIndex disk0.bytes name)
+  pub not_index : status ≡ 6 → (name : List ℕ) × Tells out0 out1 (not_index_text name) × (IsTrue disk0.is_known → IsNoIndex disk0.bytes name)
   pub memory : status ≡ 8 → Tells out0 out1 (codes "fault memory\n")
-  pub damaged : status ≡ 9 → (fault : PageFault) × Tells out0 out1 (damaged_text fault) × (IsTrue disk0.tells → IsDamaged disk0.bytes fault)
+  pub damaged : status ≡ 9 → (fault : PageFault) × Tells out0 out1 (damaged_text fault) × (IsTrue disk0.is_known → IsDamaged disk0.bytes fault)
   -- a sound file gives neither status 6 nor status 9
-  pub sound : IsTrue disk0.tells → (head : Head) (live : Live) → IsSound head live disk0.bytes → (status ≢ 6) × (status ≢ 9)
+  pub sound : IsTrue disk0.is_known → (head : Head) (live : Live) → IsSound head live disk0.bytes → (status ≢ 6) × (status ≢ 9)
 
 -- why the walk of an opened file on a disk stopped, where the disk counts `faults` faults now
 abbrev pub HasStop : Head → Live → DiskState → ℕ → PageFault → Type 0
 HasStop head live old faults page.Disk = Rose old.faults faults
 HasStop head live old faults page.Memory = Unit {0}
 HasStop head live old faults (page.Level p) = ⊥
-HasStop head live old faults fault = IsTrue old.tells → HasDamage head live old.bytes fault
+HasStop head live old faults fault = IsTrue old.is_known → HasDamage head live old.bytes fault
 
 abbrev pub IsShapeStatus : ℕ → Type 0
 IsShapeStatus n = (n ≡ 0) ⊎ ((n ≡ 4) ⊎ ((n ≡ 5) ⊎ ((n ≡ 6) ⊎ ((n ≡ 8) ⊎ (n ≡ 9)))))

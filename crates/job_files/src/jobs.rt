@@ -9,7 +9,7 @@ ghost use Rattle.std.specs.Io.KnownBytes.{Appends};
 ghost use Rattle.outside_io.specs.Bytes.{AppendsPrefix};
 ghost use Rattle.outside_io.specs.Causes.{Rose};
 ghost use Rattle.outside_io.specs.Sinks.{Tells};
-ghost use Rattle.node_page.specs.Heads.{IsLawfulHead};
+ghost use Rattle.node_page.specs.Heads.{IsValidHead};
 ghost use Rattle.node_page.specs.Opening.{OpensTo};
 ghost use Rattle.job_files.specs.Jobs.{Creates, Refuses, Audits, HasFault, IsPassing, IsAuditStatus};
 ghost use Rattle.job_files.specs.Reads.{ReadsOnce, each_page};
@@ -34,7 +34,7 @@ use tree_shape::Live;
 /// Makes an empty index in an empty file, and writes `created`. Status 4: the line could not be written; 5: the disk
 /// failed; 6: the file holds something, and is left as it is.
 pub fn create_index<D: Disk, K: Sink>(disk: &mut D, head: &Head, out: &mut K) -> Status
-    requires lawful { IsLawfulHead head.now }
+    requires valid { IsValidHead head.now }
     requires version { head.now.version ≡ 2 }
     ensures creates { Creates head.now (D.state disk.old) (D.state disk.new) (K.state out.old) (K.state out.new) result.0 }
     ensures statuses { (result.0 ≡ 0) ⊎ ((result.0 ≡ 4) ⊎ ((result.0 ≡ 5) ⊎ (result.0 ≡ 6))) }
@@ -69,7 +69,7 @@ fn unopened_line(fault: OpenFault) -> &'static [u8]
 
 /// Returns the space of `head`.
 pub fn space_of(head: &Head) -> MixSpace
-    requires { IsLawfulHead head.now }
+    requires { IsValidHead head.now }
     ensures kind { mix_kind result ≡ head.now.kind }
     ensures dim { mix_dim result ≡ head.now.dim }
 {
@@ -88,13 +88,13 @@ pub fn audit_opened<D: Disk>(
     head: &Head,
     live: &Live,
 ) -> Result<Audited, AuditFault>
-    requires head { IsLawfulHead head.now }
+    requires head { IsValidHead head.now }
     requires pages { live.now.pages ≤ 2 ^ 24 }
     ensures same { IsUnchanged (D.state disk.old) (D.state disk.new) }
-    ensures ok { IfOk result (λ a. IsTrue (D.state disk.old).tells
+    ensures ok { IfOk result (λ a. IsTrue (D.state disk.old).is_known
         → audit_fault (space_of head.now) (reading head.now.dim live.now.pages (D.state disk.old).bytes) live.now ≡ None) }
     ensures objects { IfOk result (λ a. a.objects ≡ live.now.count) }
-    ensures nodes { IfOk result (λ a. IsTrue (D.state disk.old).tells
+    ensures nodes { IfOk result (λ a. IsTrue (D.state disk.old).is_known
         → a.nodes ≡ length (pages_at (nodes_of (reading head.now.dim live.now.pages (D.state disk.old).bytes))
         live.now.height live.now.root)) }
     ensures err { IfErr result (HasFault (D.state disk.old) (D.state disk.new).faults
@@ -169,10 +169,10 @@ pub fn end_sound<K: Sink>(alloc: Global, audited: &Audited, out: &mut K) -> Stat
 /// cause of an error (`refuses`); faults of the devices (`later`, `no_fault`, `written_later`).
 pub fn open_index<D: Disk, K: Sink>(disk: &mut D, out: &mut K) -> Result<(Head, Live), Status>
     ensures same { IsUnchanged (D.state disk.old) (D.state disk.new) }
-    ensures opens { IfOk result (λ opened. IsTrue (D.state disk.old).tells → OpensTo (D.state disk.old).bytes opened.0 opened.1) }
+    ensures opens { IfOk result (λ opened. IsTrue (D.state disk.old).is_known → OpensTo (D.state disk.old).bytes opened.0 opened.1) }
     ensures version { IfOk result (λ opened. opened.0.version ≡ 2) }
-    // The head is lawful also where the disk does not tell its bytes.
-    ensures head { IfOk result (λ opened. IsLawfulHead opened.0) }
+    // The head is valid also where the disk does not tell its bytes.
+    ensures head { IfOk result (λ opened. IsValidHead opened.0) }
     ensures some { IfOk result (λ opened. 4 ≤ opened.1.pages) }
     ensures pages { IfOk result (λ opened. opened.1.pages ≤ 2 ^ 24) }
     ensures height { IfOk result (λ opened. opened.1.height ≤ 14) }

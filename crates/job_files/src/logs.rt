@@ -1,7 +1,7 @@
 //! What the jobs on files of logs have in common: the words on a log and on bytes that are no logs, the judging of logs frame
 //! by frame, the line on an audited file, and how such a job reads its logs and ends.
 mod auditing;
-mod court;
+mod checker;
 mod ending;
 mod first_fault;
 mod judging;
@@ -11,7 +11,7 @@ mod report;
 mod stop;
 
 pub use auditing::put_audit;
-pub use court::Court;
+pub use checker::Checker;
 pub use ending::{end_stopped, read_logs};
 pub use first_fault::first_fault;
 pub use judging::judge_bytes;

@@ -5,7 +5,7 @@ ghost use Rattle.outside_io.specs.Bytes.{AppendsPrefix};
 ghost use Rattle.outside_io.specs.Causes.{Rose};
 ghost use Rattle.outside_io.specs.Sinks.{Tells};
 ghost use Rattle.disk_model.specs.Disk.{IsUnchanged};
-ghost use Rattle.node_page.specs.Heads.{IsLawfulHead};
+ghost use Rattle.node_page.specs.Heads.{IsValidHead};
 ghost use Rattle.page_store.specs.Shelf.{IsPassing};
 ghost use Rattle.tree_outline.specs.Shapes.{IsCounted};
 ghost use Rattle.job_files.specs.Lines.{damaged_text, shape_text};
@@ -30,11 +30,11 @@ pub fn shape_opened<D: Disk>(
     head: &Head,
     live: &Live,
 ) -> Result<Shape, PageFault>
-    requires head { IsLawfulHead head.now }
+    requires head { IsValidHead head.now }
     requires pages { live.now.pages ≤ 2 ^ 24 }
     ensures same { IsUnchanged (D.state disk.old) (D.state disk.new) }
     ensures counted { IfOk result (IsCounted live.now) }
-    ensures lines { IfOk result (λ shape. IsTrue (D.state disk.old).tells →
+    ensures lines { IfOk result (λ shape. IsTrue (D.state disk.old).is_known →
         AreLinesOf head.now live.now (D.state disk.old).bytes shape.lines) }
     ensures stop { IfErr result (HasStop head.now live.now (D.state disk.old) (D.state disk.new).faults) }
     ensures later { (D.state disk.old).faults ≤ (D.state disk.new).faults }

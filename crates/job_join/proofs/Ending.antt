@@ -26,14 +26,14 @@ use Rattle.outside_io.proofs.Published.{rose_before}
 pub record Opened (d0 d1 e0 e1 : DiskState) (l r : Head × Live) : Type 0 where
   pub same : IsUnchanged d0 d1
   pub other_same : IsUnchanged e0 e1
-  pub opens : IsTrue d0.tells → IsOpened (tree_of d0 l)
-  pub other_opens : IsTrue e0.tells → IsOpened (tree_of e0 r)
+  pub opens : IsTrue d0.is_known → IsOpened (tree_of d0 l)
+  pub other_opens : IsTrue e0.is_known → IsOpened (tree_of e0 r)
   pub later : d0.faults ≤ d1.faults
   pub other_later : e0.faults ≤ e1.faults
 
 -- what holds for the bytes after opening holds for those before
 pub on_trees : (Holds : Tree → Tree → Type 0) (d0 d1 e0 e1 : DiskState) (l r : Head × Live) → Opened d0 d1 e0 e1 l r
-    → (IsTrue d1.tells → IsTrue e1.tells → Holds (tree_of d1 l) (tree_of e1 r)) → OnTrees d0 e0 Holds
+    → (IsTrue d1.is_known → IsTrue e1.is_known → Holds (tree_of d1 l) (tree_of e1 r)) → OnTrees d0 e0 Holds
 on_trees Holds d0 d1 e0 e1 l r opened holds t u = (
   tree_of d0 l,
   tree_of e0 r,
@@ -43,7 +43,7 @@ on_trees Holds d0 d1 e0 e1 l r opened holds t u = (
   opened.other_opens u,
   subst (λ (file : List ℕ). Holds (record { file = file; head = l.0; live = l.1 }) (tree_of e0 r)) opened.same.same_bytes
       (subst (λ (file : List ℕ). Holds (tree_of d1 l) (record { file = file; head = r.0; live = r.1 })) opened.other_same.same_bytes
-      (holds (subst IsTrue (sym opened.same.same_tells) t) (subst IsTrue (sym opened.other_same.same_tells) u))),
+      (holds (subst IsTrue (sym opened.same.same_known) t) (subst IsTrue (sym opened.other_same.same_known) u))),
 )
 
 pub either_before : (d0 d1 d2 e0 e1 e2 : DiskState) (l r : Head × Live) → Opened d0 d1 e0 e1 l r → EitherRose d1 d2 e1 e2 → EitherRose d0 d2 e0 e2
@@ -51,7 +51,7 @@ either_before d0 d1 d2 e0 e1 e2 l r opened either =
     ⊎_elim (λ rose. inl (rose_before d0.faults d1.faults d2.faults opened.later rose)) (λ rose. inr (rose_before e0.faults e1.faults e2.faults opened.other_later rose)) either
 
 -- the index was opened, and the other file was not
-pub other_refuses : (d0 d1 e0 e1 : DiskState) (l : Head × Live) (w0 w1 : SinkState) (status : ℕ) → (IsTrue d0.tells → IsOpened (tree_of d0 l)) → RefusesFile e0 e1 w0 w1 status → Refuses d0 d1 e0 e1 w0 w1 status
+pub other_refuses : (d0 d1 e0 e1 : DiskState) (l : Head × Live) (w0 w1 : SinkState) (status : ℕ) → (IsTrue d0.is_known → IsOpened (tree_of d0 l)) → RefusesFile e0 e1 w0 w1 status → Refuses d0 d1 e0 e1 w0 w1 status
 other_refuses d0 d1 e0 e1 l w0 w1 status opens refuses = record {
   disk = λ is. let told = refuses.disk is in (inr told.0, told.1);
   not_index = λ is. let told = refuses.not_index is in (told.0, told.1, inr ((λ t. (tree_of d0 l, refl, opens t)), told.2));
@@ -87,7 +87,7 @@ join_spaces radius d0 d1 e0 e1 l r w0 w1 v status opened differ either whole par
 }
 
 pub join_done : (radius : ℕ) (d0 d1 d2 e0 e1 e2 : DiskState) (l r : Head × Live) (log : JoinLog) (w0 w1 v0 v1 : SinkState) (status : ℕ) → Opened d0 d1 e0 e1 l r → IsUnchanged d0 d2 → IsUnchanged e0 e2
-    → (IsTrue d1.tells → IsTrue e1.tells → IsJoinOf radius log (tree_of d1 l) (tree_of e1 r))
+    → (IsTrue d1.is_known → IsTrue e1.is_known → IsJoinOf radius log (tree_of d1 l) (tree_of e1 r))
     → (status ≡ 0) ⊎ ((status ≡ 4) ⊎ (status ≡ 8)) → (status ≡ 0 → PutsJoin log w0 w1 v0 v1) → (status ≡ 4 → CutsJoin log w0 w1 v0 v1) → (status ≡ 8 → Tells w0 w1 (codes "fault memory\n"))
     → Joins radius d0 d2 e0 e2 w0 w1 v0 v1 status
 join_done radius d0 d1 d2 e0 e1 e2 l r log w0 w1 v0 v1 status opened same other joined statuses whole part memory = record {

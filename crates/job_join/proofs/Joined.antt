@@ -30,12 +30,12 @@ moved P s t x x2 y y2 first second third holds =
 
 pub join_of : (r : Result Joined JoinFault) (s : Space) (trees : Trees) (d0 e0 : DiskState) (radius : ℕ) (a a2 b b2 : Shelf) (used used2 : ℕ) → Sides trees d0 e0 a b → s ≡ space_of (tree_of d0 trees.left)
     → IfOk r (IsJoined s trees.left.1 trees.right.1 radius a a2 b b2 used used2)
-    → IfOk r (λ joined. IsTrue a.tells → IsTrue b.tells → Scans trees radius joined s a.read b.read)
-    → IfOk r (λ joined. IsTrue d0.tells → IsTrue e0.tells → IsJoinOf radius joined.log (tree_of d0 trees.left) (tree_of e0 trees.right))
+    → IfOk r (λ joined. IsTrue a.is_known → IsTrue b.is_known → Scans trees radius joined s a.read b.read)
+    → IfOk r (λ joined. IsTrue d0.is_known → IsTrue e0.is_known → IsJoinOf radius joined.log (tree_of d0 trees.left) (tree_of e0 trees.right))
 join_of (Err fault) s trees d0 e0 radius a a2 b b2 used used2 sides same told scanned = tt
 join_of (Ok joined) s trees d0 e0 radius a a2 b b2 used used2 sides same told scanned = λ t u.
-    let ta : IsTrue a.tells = subst IsTrue (sym sides.left.tells) t in
-    let tb : IsTrue b.tells = subst IsTrue (sym sides.right.tells) u in
+    let ta : IsTrue a.is_known = subst IsTrue (sym sides.left.is_known) t in
+    let tb : IsTrue b.is_known = subst IsTrue (sym sides.right.is_known) u in
     record {
       one_space = sides.one;
       least = moved (λ z x y. IsLeastJoinLog z (nodes_of x) (nodes_of y) trees.left.1 trees.right.1 radius joined.log) s (space_of (tree_of d0 trees.left)) a.read (read_of (tree_of d0 trees.left)) b.read (read_of (tree_of e0 trees.right))
@@ -48,9 +48,9 @@ join_of (Ok joined) s trees d0 e0 radius a a2 b b2 used used2 sides same told sc
 
 pub refusal_of : (r : Result Joined JoinFault) (s : Space) (trees : Trees) (d0 : DiskState) (n : ℕ) (e0 : DiskState) (m : ℕ) (a a2 b b2 : Shelf) → Sides trees d0 e0 a b → s ≡ space_of (tree_of d0 trees.left) → a2.faults ≡ n → b2.faults ≡ m
     → IfErr r (HasJoinCause trees.left.1 trees.right.1 a a2 b b2)
-    → IfErr r (λ fault. IsTrue a.tells → IsTrue b.tells → IsSoundTree s (nodes_of a.read) trees.left.1 → IsSoundTree s (nodes_of b.read) trees.right.1 → IsPassing fault)
+    → IfErr r (λ fault. IsTrue a.is_known → IsTrue b.is_known → IsSoundTree s (nodes_of a.read) trees.left.1 → IsSoundTree s (nodes_of b.read) trees.right.1 → IsPassing fault)
     → IfErr r (HasRefusal trees d0 n e0 m)
 refusal_of (Ok joined) s trees d0 n e0 m a a2 b b2 sides same af bf cause passes = tt
 refusal_of (Err fault) s trees d0 n e0 m a a2 b b2 sides same af bf cause passes =
     refusal trees d0 n e0 m a a2 b b2 fault sides af bf cause
-    (subst (λ (z : Space). IsTrue a.tells → IsTrue b.tells → IsSoundTree z (nodes_of a.read) trees.left.1 → IsSoundTree z (nodes_of b.read) trees.right.1 → IsPassing fault) same passes)
+    (subst (λ (z : Space). IsTrue a.is_known → IsTrue b.is_known → IsSoundTree z (nodes_of a.read) trees.left.1 → IsSoundTree z (nodes_of b.read) trees.right.1 → IsPassing fault) same passes)

@@ -20,20 +20,20 @@ use Rattle.job_join.proofs.Spaces.{one_space}
 
 -- what a disk's pages mean
 pub record IsOf (shelf : Shelf) (disk : DiskState) (tree : Tree) : Type 0 where
-  pub tells : shelf.tells ≡ disk.tells
+  pub is_known : shelf.is_known ≡ disk.is_known
   pub read : shelf.read ≡ read_of tree
   pub faults : shelf.faults ≡ disk.faults
 
-side_damage : (tree : Tree) (old new : Shelf) (fault : PageFault) → old.read ≡ read_of tree → IsTrue old.tells → fault ≢ pages.Disk → HasSideCause tree.live old new fault → IsDamaged tree fault
-side_damage tree old new pages.Disk is tells other cause = absurd (other refl)
-side_damage tree old new (pages.Bad page f) is tells other cause =
-    subst (λ (read : Read). (read page ≡ Err (pages.Bad page f)) × NamesInside (nodes_of read) tree.live page) is (cause.2 tells)
-side_damage tree old new (pages.Outside page) is tells other cause =
-    subst (λ (read : Read). (read page ≡ Err (pages.Outside page)) × NamesInside (nodes_of read) tree.live page) is (cause.1 tells)
-side_damage tree old new (pages.Repeats page) is tells other cause =
-    subst (λ (read : Read). Names (nodes_of read) tree.live.root tree.live.pages page) is (cause.1 tells)
-side_damage tree old new pages.Memory is tells other cause = absurd cause
-side_damage tree old new (pages.Level page) is tells other cause = absurd cause
+side_damage : (tree : Tree) (old new : Shelf) (fault : PageFault) → old.read ≡ read_of tree → IsTrue old.is_known → fault ≢ pages.Disk → HasSideCause tree.live old new fault → IsDamaged tree fault
+side_damage tree old new pages.Disk is is_known other cause = absurd (other refl)
+side_damage tree old new (pages.Bad page f) is is_known other cause =
+    subst (λ (read : Read). (read page ≡ Err (pages.Bad page f)) × NamesInside (nodes_of read) tree.live page) is (cause.2 is_known)
+side_damage tree old new (pages.Outside page) is is_known other cause =
+    subst (λ (read : Read). (read page ≡ Err (pages.Outside page)) × NamesInside (nodes_of read) tree.live page) is (cause.1 is_known)
+side_damage tree old new (pages.Repeats page) is is_known other cause =
+    subst (λ (read : Read). Names (nodes_of read) tree.live.root tree.live.pages page) is (cause.1 is_known)
+side_damage tree old new pages.Memory is is_known other cause = absurd cause
+side_damage tree old new (pages.Level page) is is_known other cause = absurd cause
 
 -- what is known of both sides before the join
 pub record Sides (trees : Trees) (d0 e0 : DiskState) (a b : Shelf) : Type 0 where
@@ -44,9 +44,9 @@ pub record Sides (trees : Trees) (d0 e0 : DiskState) (a b : Shelf) : Type 0 wher
 -- a fault comes on two sound trees only if it is a passing one
 abbrev pub PassesOn : Trees → Shelf → Shelf → DiskState → JoinFault → Type 0
 PassesOn trees a b d0 fault =
-    IsTrue a.tells → IsTrue b.tells → IsSoundTree (space_of (tree_of d0 trees.left)) (nodes_of a.read) trees.left.1 → IsSoundTree (space_of (tree_of d0 trees.left)) (nodes_of b.read) trees.right.1 → IsPassing fault
+    IsTrue a.is_known → IsTrue b.is_known → IsSoundTree (space_of (tree_of d0 trees.left)) (nodes_of a.read) trees.left.1 → IsSoundTree (space_of (tree_of d0 trees.left)) (nodes_of b.read) trees.right.1 → IsPassing fault
 
-unsound : (trees : Trees) (d0 e0 : DiskState) (a b : Shelf) (fault : JoinFault) → Sides trees d0 e0 a b → PassesOn trees a b d0 fault → IsTrue a.tells → IsTrue b.tells →
+unsound : (trees : Trees) (d0 e0 : DiskState) (a b : Shelf) (fault : JoinFault) → Sides trees d0 e0 a b → PassesOn trees a b d0 fault → IsTrue a.is_known → IsTrue b.is_known →
     IsSoundTree (space_of (tree_of d0 trees.left)) (nodes_of (read_of (tree_of d0 trees.left))) trees.left.1 →
     IsSoundTree (space_of (tree_of e0 trees.right)) (nodes_of (read_of (tree_of e0 trees.right))) trees.right.1 → IsPassing fault
 unsound trees d0 e0 a b fault sides passes ta tb sl sr =
@@ -58,8 +58,8 @@ unsound trees d0 e0 a b fault sides passes ta tb sl sr =
 damaged_left : (trees : Trees) (d0 e0 : DiskState) (a a2 b : Shelf) (fault : PageFault) → Sides trees d0 e0 a b → fault ≢ pages.Disk → (IsPassing (join.Left fault) → ⊥)
     → HasSideCause trees.left.1 a a2 fault → PassesOn trees a b d0 (join.Left fault) → HasDamage trees d0 e0 fault
 damaged_left trees d0 e0 a a2 b fault sides other stays cause passes t u =
-    let ta : IsTrue a.tells = subst IsTrue (sym sides.left.tells) t in
-    let tb : IsTrue b.tells = subst IsTrue (sym sides.right.tells) u in
+    let ta : IsTrue a.is_known = subst IsTrue (sym sides.left.is_known) t in
+    let tb : IsTrue b.is_known = subst IsTrue (sym sides.right.is_known) u in
     record {
       one_space = sides.one;
       damaged = inl (side_damage (tree_of d0 trees.left) a a2 fault sides.left.read ta other cause);
@@ -69,8 +69,8 @@ damaged_left trees d0 e0 a a2 b fault sides other stays cause passes t u =
 damaged_right : (trees : Trees) (d0 e0 : DiskState) (a b b2 : Shelf) (fault : PageFault) → Sides trees d0 e0 a b → fault ≢ pages.Disk → (IsPassing (join.Right fault) → ⊥)
     → HasSideCause trees.right.1 b b2 fault → PassesOn trees a b d0 (join.Right fault) → HasDamage trees d0 e0 fault
 damaged_right trees d0 e0 a b b2 fault sides other stays cause passes t u =
-    let ta : IsTrue a.tells = subst IsTrue (sym sides.left.tells) t in
-    let tb : IsTrue b.tells = subst IsTrue (sym sides.right.tells) u in
+    let ta : IsTrue a.is_known = subst IsTrue (sym sides.left.is_known) t in
+    let tb : IsTrue b.is_known = subst IsTrue (sym sides.right.is_known) u in
     record {
       one_space = sides.one;
       damaged = inr (side_damage (tree_of e0 trees.right) b b2 fault sides.right.read tb other cause);

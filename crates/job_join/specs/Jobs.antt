@@ -5,7 +5,7 @@ use Rattle.outside_io.specs.Bytes.{AppendsPrefix}
 use Rattle.outside_io.specs.Causes.{Rose}
 use Rattle.outside_io.specs.Sinks.{SinkState, Tells}
 use Rattle.disk_model.specs.Disk.{DiskState, IsUnchanged}
-use Rattle.node_page.specs.Heads.{IsLawfulHead}
+use Rattle.node_page.specs.Heads.{IsValidHead}
 use Rattle.page_store.specs.declared.pages.PageFault.{PageFault}
 use Rattle.page_store.specs.declared.pages.PageFault.TheVariants as pages
 use Rattle.log_model.specs.declared.logs.JoinLog.{JoinLog}
@@ -23,10 +23,10 @@ use Rattle.job_join.specs.Trees.{Tree, tree_of, IsOpened, IsSoundFile, IsLeastLo
 
 -- ---- opening
 
--- the heads and live slots are lawful, even on disks that don't tell their bytes
-pub record AreLawful (trees : Trees) : Type 0 where
-  pub left_head : IsLawfulHead trees.left.0
-  pub right_head : IsLawfulHead trees.right.0
+-- the heads and live slots are valid, even on disks that don't tell their bytes
+pub record AreValid (trees : Trees) : Type 0 where
+  pub left_head : IsValidHead trees.left.0
+  pub right_head : IsValidHead trees.right.0
   pub left_pages : trees.left.1.pages ≤ 2 ^ 24
   pub right_pages : trees.right.1.pages ≤ 2 ^ 24
 
@@ -37,8 +37,8 @@ IsIndex file = (tree : Tree) × (tree.file ≡ file) × IsOpened tree
 -- the file `index` is no index, as `name` says; or it is one, and `other` is none
 abbrev pub IsNoPair : DiskState → DiskState → List ℕ → Type 0
 IsNoPair index other name =
-    (IsTrue index.tells → IsNoIndex index.bytes name)
-    ⊎ ((IsTrue index.tells → IsIndex index.bytes) × (IsTrue other.tells → IsNoIndex other.bytes name))
+    (IsTrue index.is_known → IsNoIndex index.bytes name)
+    ⊎ ((IsTrue index.is_known → IsIndex index.bytes) × (IsTrue other.is_known → IsNoIndex other.bytes name))
 
 -- one of the two disks failed
 abbrev pub EitherRose : DiskState → DiskState → DiskState → DiskState → Type 0
@@ -53,7 +53,7 @@ pub record Refuses (index0 index1 other0 other1 : DiskState) (out0 out1 : SinkSt
 -- where both disks tell their bytes, both files open to trees that satisfy `Holds`
 abbrev pub OnTrees : DiskState → DiskState → (Tree → Tree → Type 0) → Type 0
 OnTrees index other Holds =
-    IsTrue index.tells → IsTrue other.tells →
+    IsTrue index.is_known → IsTrue other.is_known →
     (left : Tree) × (right : Tree) × (left.file ≡ index.bytes) × (right.file ≡ other.bytes) × IsOpened left × IsOpened right × Holds left right
 
 -- ---- verify and check
@@ -114,7 +114,7 @@ pub record AreDamaged (fault : PageFault) (left right : Tree) : Type 0 where
 -- a page of two opened files gave no node
 abbrev pub HasDamage : Trees → DiskState → DiskState → PageFault → Type 0
 HasDamage trees index other fault =
-    IsTrue index.tells → IsTrue other.tells → AreDamaged fault (tree_of index trees.left) (tree_of other trees.right)
+    IsTrue index.is_known → IsTrue other.is_known → AreDamaged fault (tree_of index trees.left) (tree_of other trees.right)
 
 -- why the join of two opened files fails: a disk failed, memory ran out, or a page gave no node; `faults` and `other_faults` are the
 -- disks' counts of faults now

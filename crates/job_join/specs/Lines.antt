@@ -10,7 +10,7 @@ use Rattle.prune_log.specs.declared.fault.LogFault.{LogFault}
 use Rattle.tree_audit.specs.declared.faults.AuditFault.{AuditFault}
 use Rattle.fault_lines.specs.Lines.{numbered, page_fault_text}
 use Rattle.job_files.specs.Logs.Lines.{state_text}
-use Rattle.job_files.specs.Logs.Sayings.{Saying, Words, on_file, on_logs}
+use Rattle.job_files.specs.Logs.JobReports.{JobReport, Words, on_file, on_logs}
 use Rattle.job_files.specs.declared.logs.report.Report.{Report}
 use Rattle.job_files.specs.declared.logs.report.Report.TheVariants as report
 
@@ -51,10 +51,10 @@ join_words = record { verdict = verdict_text; answers = λ log. counted (codes "
 -- ---- what a job says
 
 -- what is said of two files with these first faults, and of logs: verdicts are given for any files, and answers for sound files only
-abbrev pub saying : Report → Option AuditFault → Option AuditFault → Judge → Result (List JoinLog) LogFault → Saying
+abbrev pub saying : Report → Option AuditFault → Option AuditFault → Judge → Result (List JoinLog) LogFault → JobReport
 saying report.Verdicts left right judge logs = on_logs join_words report.Verdicts judge logs
 saying report.Answers left right judge logs = on_file (codes "file") left (on_file (codes "other") right (on_logs join_words report.Answers judge logs))
 
 -- what is said of two files with different spaces
-abbrev pub on_spaces : Saying
+abbrev pub on_spaces : JobReport
 on_spaces = record { texts = spaces_text ∷ []; status = 1 }

@@ -18,7 +18,7 @@ use Rattle.log_verify.specs.JoinJudged.{join_fault}
 use Rattle.prune_log.specs.Reading.{join_log_at, frames_at}
 use Rattle.job_files.specs.declared.logs.report.Report.{Report}
 use Rattle.job_files.specs.Logs.Files.{fault_of as first_fault}
-use Rattle.job_files.specs.Logs.Sayings.{Saying, on_logs}
+use Rattle.job_files.specs.Logs.JobReports.{JobReport, on_logs}
 use Rattle.job_join.specs.Lines.{Judge, join_words, saying, on_spaces}
 
 -- the bytes of a file, and the head and the live slot that it opens to
@@ -81,11 +81,11 @@ abbrev pub scanned_pairs : Tree → Tree → ℕ → List Pair
 scanned_pairs left right radius = join_pairs (space_of left) (points_of left) (points_of right) radius
 
 -- what is said of the logs that bytes spell; of two files of one space and the logs; and of any two opened files
-abbrev pub said_of_logs : Report → Tree → Tree → List ℕ → Saying
+abbrev pub said_of_logs : Report → Tree → Tree → List ℕ → JobReport
 said_of_logs what left right bytes = on_logs join_words what (judge_of left right) (frames_at join_log_at bytes)
 
-abbrev pub said_of_files : Report → Tree → Tree → List ℕ → Saying
+abbrev pub said_of_files : Report → Tree → Tree → List ℕ → JobReport
 said_of_files what left right bytes = saying what (fault_of left) (fault_of right) (judge_of left right) (frames_at join_log_at bytes)
 
-abbrev pub said_of : Report → Tree → Tree → List ℕ → Saying
+abbrev pub said_of : Report → Tree → Tree → List ℕ → JobReport
 said_of what left right bytes = if is_one_space left.head right.head then said_of_files what left right bytes else on_spaces

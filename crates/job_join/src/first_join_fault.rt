@@ -1,6 +1,6 @@
 // The first fault of a join's log.
 ghost use Rattle.std.specs.Prelude.{◌≡◌, ◌≤◌, ◌+◌, length, IsTrue, IfOk, IsErrOf};
-ghost use Rattle.log_model.specs.Grammar.{IsLawfulJoinLog};
+ghost use Rattle.log_model.specs.Grammar.{IsValidJoinLog};
 ghost use Rattle.log_verify.specs.JoinJudged.{join_fault};
 ghost use Rattle.job_join.specs.Both.{HoldBoth, OneRose};
 
@@ -26,11 +26,11 @@ pub fn first_join_fault<M: Metric, P: Pages, Q: Pages>(
     right: &Live,
     log: &JoinLog,
 ) -> Result<Option<JoinVerdict>, LogStop>
-    requires { IsLawfulJoinLog log.now }
+    requires { IsValidJoinLog log.now }
     ensures same { HoldBoth (P.shelf left_pages.old) (P.shelf left_pages.new) (Q.shelf right_pages.old) (Q.shelf right_pages.new) }
     ensures left_keeps { P.keeps left_pages.old left_pages.new }
     ensures right_keeps { Q.keeps right_pages.old right_pages.new }
-    ensures told { IfOk result (λ found. IsTrue (P.shelf left_pages.old).tells → IsTrue (Q.shelf right_pages.old).tells →
+    ensures told { IfOk result (λ found. IsTrue (P.shelf left_pages.old).is_known → IsTrue (Q.shelf right_pages.old).is_known →
         join_fault (M.space metric) (P.shelf left_pages.old).read (Q.shelf right_pages.old).read left.now right.now log.now ≡ found) }
     ensures reads { (P.shelf left_pages.new).reads + (Q.shelf right_pages.new).reads ≤
         (P.shelf left_pages.old).reads + (Q.shelf right_pages.old).reads + length log.now.records }

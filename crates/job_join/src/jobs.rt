@@ -4,12 +4,12 @@ ghost use Rattle.outside_io.specs.Causes.{Rose};
 ghost use Rattle.disk_model.specs.Disk.{IsUnchanged};
 ghost use Rattle.job_join.specs.Trees.{Tree, tree_of, IsOpened};
 ghost use Rattle.job_files.specs.Logs.Jobs.{IsJudgeStatus, IsLogStatus};
-ghost use Rattle.job_join.specs.Jobs.{AreLawful, Refuses, Judges, JudgesLogs, Joins, IsJoinStatus};
+ghost use Rattle.job_join.specs.Jobs.{AreValid, Refuses, Judges, JudgesLogs, Joins, IsJoinStatus};
 ghost use Rattle.job_join.specs.Laws.{FaultlessIsComplete};
 
 use crate::joining::{end_joined, end_refused, join_opened};
 use crate::laws::faultless_is_complete;
-use crate::opened::{Docket, REJECTED_SPACES, Trees, report_on};
+use crate::opened::{REJECTED_SPACES, Request, Trees, report_on};
 use disk_model::Disk;
 use job_files::logs::{Report, end_stopped, read_logs};
 use job_files::{open_index, put_line};
@@ -17,7 +17,7 @@ use outside_io::{Sink, Source, Status};
 use std::alloc::Global;
 
 /// Opens two indexes of version 2. Otherwise it writes why the first file that is no index is none, and returns the status.
-/// Clauses: the answer (`opens`, `other_opens`, `lawful`); what stays (`same`, `other_same`, `silent`); the cause of an error (`refuses`);
+/// Clauses: the answer (`opens`, `other_opens`, `valid`); what stays (`same`, `other_same`, `silent`); the cause of an error (`refuses`);
 /// faults of the devices (`later`, `other_later`, `written_later`).
 pub fn open_both<D: Disk, E: Disk, K: Sink>(
     index: &mut D,
@@ -26,9 +26,9 @@ pub fn open_both<D: Disk, E: Disk, K: Sink>(
 ) -> Result<Trees, Status>
     ensures same { IsUnchanged (D.state index.old) (D.state index.new) }
     ensures other_same { IsUnchanged (E.state other.old) (E.state other.new) }
-    ensures opens { IfOk result (λ trees. IsTrue (D.state index.old).tells → IsOpened (tree_of (D.state index.old) trees.left)) }
-    ensures other_opens { IfOk result (λ trees. IsTrue (E.state other.old).tells → IsOpened (tree_of (E.state other.old) trees.right)) }
-    ensures lawful { IfOk result AreLawful }
+    ensures opens { IfOk result (λ trees. IsTrue (D.state index.old).is_known → IsOpened (tree_of (D.state index.old) trees.left)) }
+    ensures other_opens { IfOk result (λ trees. IsTrue (E.state other.old).is_known → IsOpened (tree_of (E.state other.old) trees.right)) }
+    ensures valid { IfOk result AreValid }
     ensures silent { OnOk result (out.new ≡ out.old) }
     ensures refuses { IfErr result (λ status.
         Refuses (D.state index.old) (D.state index.new) (E.state other.old) (E.state other.new) (K.state out.old)
@@ -61,8 +61,8 @@ fn judge_indexes<D: Disk, E: Disk, K: Sink>(
         Ok(trees) => trees,
         Err(status) => return status,
     };
-    let docket = Docket { report, bytes };
-    match report_on(alloc, &docket, index, other, &trees, out) {
+    let request = Request { report, bytes };
+    match report_on(alloc, &request, index, other, &trees, out) {
         Ok(status) => status,
         Err(why) => end_stopped(why, out),
     }

@@ -5,12 +5,12 @@ ghost use Rattle.outside_io.specs.Bytes.{AppendsPrefix};
 ghost use Rattle.outside_io.specs.Causes.{Rose};
 ghost use Rattle.outside_io.specs.Sinks.{Tells};
 ghost use Rattle.disk_model.specs.Disk.{IsUnchanged};
-ghost use Rattle.log_model.specs.Grammar.{IsLawfulJoinLog};
+ghost use Rattle.log_model.specs.Grammar.{IsValidJoinLog};
 ghost use Rattle.prune_log.specs.Spelling.{join_log_bytes, frame_bytes};
 ghost use Rattle.job_files.specs.Lines.{damaged_text};
 ghost use Rattle.job_join.specs.Lines.{pairs_text};
 ghost use Rattle.job_join.specs.Trees.{tree_of, is_one_space};
-ghost use Rattle.job_join.specs.Jobs.{AreLawful, IsJoinOf, HasRefusal, EndsRefused, PutsJoin, CutsJoin};
+ghost use Rattle.job_join.specs.Jobs.{AreValid, IsJoinOf, HasRefusal, EndsRefused, PutsJoin, CutsJoin};
 
 use crate::lines::push_pairs;
 use crate::opened::Trees;
@@ -34,13 +34,13 @@ pub fn join_opened<D: Disk, E: Disk>(
     trees: &Trees,
     radius: u64,
 ) -> Result<Joined, JoinFault>
-    requires lawful { AreLawful trees.now }
+    requires valid { AreValid trees.now }
     requires one_space { is_one_space trees.now.left.0 trees.now.right.0 ≡ true }
     ensures same { IsUnchanged (D.state index.old) (D.state index.new) }
     ensures other_same { IsUnchanged (E.state other.old) (E.state other.new) }
     ensures pairs { IfOk result (λ joined. joined.pairs ≡ joined.log.answers) }
-    ensures lawful { IfOk result (λ joined. IsLawfulJoinLog joined.log) }
-    ensures joined { IfOk result (λ joined. IsTrue (D.state index.old).tells → IsTrue (E.state other.old).tells →
+    ensures valid { IfOk result (λ joined. IsValidJoinLog joined.log) }
+    ensures joined { IfOk result (λ joined. IsTrue (D.state index.old).is_known → IsTrue (E.state other.old).is_known →
         IsJoinOf radius joined.log (tree_of (D.state index.old) trees.now.left) (tree_of (E.state other.old) trees.now.right)) }
     ensures refused { IfErr result (HasRefusal trees.now (D.state index.old) (D.state index.new).faults
         (E.state other.old) (E.state other.new).faults) }
@@ -70,7 +70,7 @@ pub fn join_opened<D: Disk, E: Disk>(
 
 // Returns the lines of a join's pairs, and the frame of its log.
 fn joined_texts(alloc: Global, joined: Joined) -> Result<(Vec<u8>, Vec<u8>), Memory>
-    requires { IsLawfulJoinLog joined.log }
+    requires { IsValidJoinLog joined.log }
     ensures lines { IfOk result (λ texts. texts.0.items ≡ pairs_text joined.pairs) }
     ensures framed { IfOk result (λ texts. texts.1.items ≡ frame_bytes (join_log_bytes joined.log)) }
 {
@@ -83,7 +83,7 @@ fn joined_texts(alloc: Global, joined: Joined) -> Result<(Vec<u8>, Vec<u8>), Mem
 }
 
 /// Ends a join that is done: puts the frame of its log, and then the lines of its pairs.
-/// Clauses: what is asked of the caller (`lawful`, `pairs`); what is written (`done`, `cut`, `memory`); what stays (`kept`); which statuses
+/// Clauses: what is asked of the caller (`valid`, `pairs`); what is written (`done`, `cut`, `memory`); what stays (`kept`); which statuses
 /// come (`statuses`); the cause of an error (`output`); faults of the devices (`later`, `log_later`).
 pub fn end_joined<K: Sink, T: Sink>(
     alloc: Global,
@@ -91,7 +91,7 @@ pub fn end_joined<K: Sink, T: Sink>(
     out: &mut K,
     log_out: &mut T,
 ) -> Status
-    requires lawful { IsLawfulJoinLog joined.log }
+    requires valid { IsValidJoinLog joined.log }
     requires pairs { joined.pairs ≡ joined.log.answers }
     ensures done { result.0 ≡ 0 → PutsJoin joined.log (K.state out.old) (K.state out.new) (T.state log_out.old) (T.state log_out.new) }
     ensures cut { result.0 ≡ 4 → CutsJoin joined.log (K.state out.old) (K.state out.new) (T.state log_out.old) (T.state log_out.new) }

@@ -1,7 +1,7 @@
 //! The jobs on two files: joining them, and verifying or checking logs of their join.
 #![tactic(auto)]
 
-mod court;
+mod checker;
 mod first_join_fault;
 mod jobs;
 mod joining;

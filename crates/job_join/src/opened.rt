@@ -4,9 +4,9 @@ ghost use Rattle.outside_io.specs.Causes.{Rose};
 ghost use Rattle.disk_model.specs.Disk.{IsUnchanged};
 ghost use Rattle.job_files.specs.Logs.Jobs.{Puts, stop_of};
 ghost use Rattle.job_join.specs.Trees.{tree_of, is_one_space, said_of, said_of_files, said_of_logs};
-ghost use Rattle.job_join.specs.Jobs.{AreLawful, EitherRose};
+ghost use Rattle.job_join.specs.Jobs.{AreValid, EitherRose};
 
-use crate::court::JoinCourt;
+use crate::checker::JoinChecker;
 use disk_model::Disk;
 use job_files::logs::{LogStop, Report, judge_bytes, put, put_audit};
 use job_files::space_of;
@@ -42,7 +42,7 @@ impl Trees {
 
 /// The bytes of the logs to judge, and what is said of an accepted log.
 #[derive(Clone, Copy)]
-pub struct Docket<'a> {
+pub struct Request<'a> {
     /// What is said of an accepted log.
     pub report: Report,
     /// The bytes of the logs.
@@ -50,27 +50,27 @@ pub struct Docket<'a> {
 }
 
 // Says what there is to say about the logs of two opened files of one space.
-// Clauses: what is asked of the caller (`lawful`, `one_space`); the answer (`status`); which statuses come (`statuses`); what is written
+// Clauses: what is asked of the caller (`valid`, `one_space`); the answer (`status`); which statuses come (`statuses`); what is written
 // (`puts`); what stays (`same`, `other_same`); the cause of an error (`output`, `disk`); faults of the devices (`later`).
 fn judge_opened<D: Disk, E: Disk, K: Sink>(
     alloc: Global,
-    docket: &Docket<'_>,
+    request: &Request<'_>,
     index: &mut D,
     other: &mut E,
     trees: &Trees,
     out: &mut K,
 ) -> Result<Status, LogStop>
-    requires lawful { AreLawful trees.now }
+    requires valid { AreValid trees.now }
     requires one_space { is_one_space trees.now.left.0 trees.now.right.0 ≡ true }
     ensures same { IsUnchanged (D.state index.old) (D.state index.new) }
     ensures other_same { IsUnchanged (E.state other.old) (E.state other.new) }
-    ensures puts { IsTrue (D.state index.old).tells → IsTrue (E.state other.old).tells →
-        Puts (said_of_logs docket.now.report
-        (tree_of (D.state index.old) trees.now.left) (tree_of (E.state other.old) trees.now.right) docket.now.bytes.now).texts
+    ensures puts { IsTrue (D.state index.old).is_known → IsTrue (E.state other.old).is_known →
+        Puts (said_of_logs request.now.report
+        (tree_of (D.state index.old) trees.now.left) (tree_of (E.state other.old) trees.now.right) request.now.bytes.now).texts
         (K.state out.old).written (K.state out.new).written (stop_of result) }
-    ensures status { IfOk result (λ status. IsTrue (D.state index.old).tells → IsTrue (E.state other.old).tells →
-        status.0 ≡ (said_of_logs docket.now.report
-        (tree_of (D.state index.old) trees.now.left) (tree_of (E.state other.old) trees.now.right) docket.now.bytes.now).status) }
+    ensures status { IfOk result (λ status. IsTrue (D.state index.old).is_known → IsTrue (E.state other.old).is_known →
+        status.0 ≡ (said_of_logs request.now.report
+        (tree_of (D.state index.old) trees.now.left) (tree_of (E.state other.old) trees.now.right) request.now.bytes.now).status) }
     ensures statuses { IfOk result (λ status. (status.0 ≡ 0) ⊎ (status.0 ≡ 1)) }
     ensures later { (K.state out.old).faults ≤ (K.state out.new).faults }
     ensures output { IsErrOf result LogStop.Sink → Rose (K.state out.old).faults (K.state out.new).faults }
@@ -90,14 +90,14 @@ fn judge_opened<D: Disk, E: Disk, K: Sink>(
     let right_pages = DiskPages::new(other, right.0.dim, right.1.pages);
     let mut left_pages = Cached::from_parts(left_pages, left_kept);
     let mut right_pages = Cached::from_parts(right_pages, right_kept);
-    let mut court = JoinCourt {
+    let mut checker = JoinChecker {
         space,
         left: left.1,
         right: right.1,
         left_pages: &mut left_pages,
         right_pages: &mut right_pages,
     };
-    let judged = judge_bytes(alloc, docket.report, &mut court, docket.bytes, out);
+    let judged = judge_bytes(alloc, request.report, &mut checker, request.bytes, out);
     let _index = left_pages.into_inner().disk;
     let _other = right_pages.into_inner().disk;
     judged
@@ -105,7 +105,7 @@ fn judge_opened<D: Disk, E: Disk, K: Sink>(
 
 // Audits two opened files of one space, the left one first, and writes the result. Where both are sound, it also says what there is
 // to say about their logs.
-// Clauses: what is asked of the caller (`lawful`, `one_space`); the answer (`status`); which statuses come (`statuses`); what is written
+// Clauses: what is asked of the caller (`valid`, `one_space`); the answer (`status`); which statuses come (`statuses`); what is written
 // (`puts`); what stays (`same`, `other_same`); the cause of an error (`output`, `disk`); faults of the devices (`later`).
 fn check_opened<D: Disk, E: Disk, K: Sink>(
     alloc: Global,
@@ -115,15 +115,15 @@ fn check_opened<D: Disk, E: Disk, K: Sink>(
     bytes: &[u8],
     out: &mut K,
 ) -> Result<Status, LogStop>
-    requires lawful { AreLawful trees.now }
+    requires valid { AreValid trees.now }
     requires one_space { is_one_space trees.now.left.0 trees.now.right.0 ≡ true }
     ensures same { IsUnchanged (D.state index.old) (D.state index.new) }
     ensures other_same { IsUnchanged (E.state other.old) (E.state other.new) }
-    ensures puts { IsTrue (D.state index.old).tells → IsTrue (E.state other.old).tells →
+    ensures puts { IsTrue (D.state index.old).is_known → IsTrue (E.state other.old).is_known →
         Puts (said_of_files Report.Answers
         (tree_of (D.state index.old) trees.now.left) (tree_of (E.state other.old) trees.now.right) bytes.now).texts
         (K.state out.old).written (K.state out.new).written (stop_of result) }
-    ensures status { IfOk result (λ status. IsTrue (D.state index.old).tells → IsTrue (E.state other.old).tells →
+    ensures status { IfOk result (λ status. IsTrue (D.state index.old).is_known → IsTrue (E.state other.old).is_known →
         status.0 ≡ (said_of_files Report.Answers
         (tree_of (D.state index.old) trees.now.left) (tree_of (E.state other.old) trees.now.right) bytes.now).status) }
     ensures statuses { IfOk result (λ status. (status.0 ≡ 0) ⊎ (status.0 ≡ 1)) }
@@ -141,8 +141,8 @@ fn check_opened<D: Disk, E: Disk, K: Sink>(
         return Ok(Status(1));
     }
     let report = Report::Answers;
-    let docket = Docket { report, bytes };
-    judge_opened(alloc, &docket, index, other, trees, out)
+    let request = Request { report, bytes };
+    judge_opened(alloc, &request, index, other, trees, out)
 }
 
 /// Says what there is to say about two opened files and the logs of their join.
@@ -150,22 +150,22 @@ fn check_opened<D: Disk, E: Disk, K: Sink>(
 /// (`puts`); what stays (`same`, `other_same`); the cause of an error (`output`, `disk`); faults of the devices (`later`).
 pub fn report_on<D: Disk, E: Disk, K: Sink>(
     alloc: Global,
-    docket: &Docket<'_>,
+    request: &Request<'_>,
     index: &mut D,
     other: &mut E,
     trees: &Trees,
     out: &mut K,
 ) -> Result<Status, LogStop>
-    requires { AreLawful trees.now }
+    requires { AreValid trees.now }
     ensures same { IsUnchanged (D.state index.old) (D.state index.new) }
     ensures other_same { IsUnchanged (E.state other.old) (E.state other.new) }
-    ensures puts { IsTrue (D.state index.old).tells → IsTrue (E.state other.old).tells →
-        Puts (said_of docket.now.report
-        (tree_of (D.state index.old) trees.now.left) (tree_of (E.state other.old) trees.now.right) docket.now.bytes.now).texts
+    ensures puts { IsTrue (D.state index.old).is_known → IsTrue (E.state other.old).is_known →
+        Puts (said_of request.now.report
+        (tree_of (D.state index.old) trees.now.left) (tree_of (E.state other.old) trees.now.right) request.now.bytes.now).texts
         (K.state out.old).written (K.state out.new).written (stop_of result) }
-    ensures status { IfOk result (λ status. IsTrue (D.state index.old).tells → IsTrue (E.state other.old).tells →
-        status.0 ≡ (said_of docket.now.report
-        (tree_of (D.state index.old) trees.now.left) (tree_of (E.state other.old) trees.now.right) docket.now.bytes.now).status) }
+    ensures status { IfOk result (λ status. IsTrue (D.state index.old).is_known → IsTrue (E.state other.old).is_known →
+        status.0 ≡ (said_of request.now.report
+        (tree_of (D.state index.old) trees.now.left) (tree_of (E.state other.old) trees.now.right) request.now.bytes.now).status) }
     ensures statuses { IfOk result (λ status. (status.0 ≡ 0) ⊎ (status.0 ≡ 1)) }
     ensures later { (K.state out.old).faults ≤ (K.state out.new).faults }
     ensures output { IsErrOf result LogStop.Sink → Rose (K.state out.old).faults (K.state out.new).faults }
@@ -176,8 +176,8 @@ pub fn report_on<D: Disk, E: Disk, K: Sink>(
         put(out, REJECTED_SPACES)?;
         return Ok(Status(1));
     }
-    match docket.report {
-        Report::Verdicts => judge_opened(alloc, docket, index, other, trees, out),
-        Report::Answers => check_opened(alloc, index, other, trees, docket.bytes, out),
+    match request.report {
+        Report::Verdicts => judge_opened(alloc, request, index, other, trees, out),
+        Report::Answers => check_opened(alloc, index, other, trees, request.bytes, out),
     }
 }

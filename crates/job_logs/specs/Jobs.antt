@@ -15,7 +15,7 @@ use Rattle.job_files.specs.declared.logs.report.Report.{Report}
 use Rattle.job_files.specs.declared.logs.report.Report.TheVariants as report
 use Rattle.job_files.specs.Spaces.{space_of}
 use Rattle.job_files.specs.Logs.Files.{read_of, fault_of}
-use Rattle.job_files.specs.Logs.Sayings.{Saying}
+use Rattle.job_files.specs.Logs.JobReports.{JobReport}
 use Rattle.job_files.specs.Logs.Jobs.{JudgesBytes, ReadsLogs, Writes}
 use Rattle.job_logs.specs.Lines.{Judge, saying}
 
@@ -24,7 +24,7 @@ abbrev pub judge_of : List ℕ → Head → Live → Judge
 judge_of file head live = log_fault (space_of head) (read_of file head live) live
 
 -- what is said about a file that opens and the bytes of its logs
-pub record Says (what : Report) (file bytes : List ℕ) (said : Saying) : Type 0 where
+pub record Says (what : Report) (file bytes : List ℕ) (said : JobReport) : Type 0 where
   pub head : Head
   pub live : Live
   pub opens : OpensTo file head live
@@ -33,7 +33,7 @@ pub record Says (what : Report) (file bytes : List ℕ) (said : Saying) : Type 0
 
 -- where the disk tells its bytes, a job said what there is to say about its file and the logs
 abbrev pub WritesOn : Report → DiskState → List ℕ → SinkState → SinkState → ℕ → Type 0
-WritesOn what disk bytes old new status = IsTrue disk.tells → (said : Saying) × Says what disk.bytes bytes said × Writes status said old new
+WritesOn what disk bytes old new status = IsTrue disk.is_known → (said : JobReport) × Says what disk.bytes bytes said × Writes status said old new
 
 -- the number of records of the logs that bytes spell
 abbrev pub records_in : List ℕ → ℕ
@@ -52,7 +52,7 @@ IsOnlyRead what disk0 disk1 bytes = IsUnchanged disk0 disk1 × ReadsOnce (most_r
 abbrev pub Judges : Report → DiskState → DiskState → List ℕ → SinkState → SinkState → ℕ → Type 0
 Judges what disk0 disk1 bytes out0 out1 status =
     JudgesBytes (IsOnlyRead what disk0 disk1 bytes) (WritesOn what disk0 bytes out0 out1 status) (Rose disk0.faults disk1.faults)
-    (λ name. IsTrue disk0.tells → IsNoIndex disk0.bytes name) out0 out1 status
+    (λ name. IsTrue disk0.is_known → IsNoIndex disk0.bytes name) out0 out1 status
 
 -- what a job does with the bytes of logs that it takes from `left0`
 abbrev pub JudgesLogs : Report → DiskState → DiskState → Option (List ℕ) → Option (List ℕ) → SinkState → SinkState → ℕ → Type 0

@@ -1,7 +1,7 @@
 //! The jobs on files of query logs: verifying the logs against an index, and checking the index together with its logs.
 #![tactic(auto)]
 
-mod court;
+mod checker;
 mod jobs;
 pub mod laws;
 mod opened;

@@ -2,15 +2,15 @@
 ghost use Rattle.std.specs.Prelude.{◌≡◌, ◌⊎◌, ◌≤◌, ◌+◌, ◌^◌, max, IsTrue, IfOk, IsErrOf};
 ghost use Rattle.outside_io.specs.Causes.{Rose};
 ghost use Rattle.disk_model.specs.Disk.{IsUnchanged};
-ghost use Rattle.node_page.specs.Heads.{IsLawfulHead};
+ghost use Rattle.node_page.specs.Heads.{IsValidHead};
 ghost use Rattle.prune_log.specs.Reading.{log_at, frames_at};
 ghost use Rattle.job_files.specs.Logs.Files.{fault_of};
 ghost use Rattle.job_files.specs.Logs.Jobs.{Puts, stop_of};
-ghost use Rattle.job_files.specs.Logs.Sayings.{on_logs};
+ghost use Rattle.job_files.specs.Logs.JobReports.{on_logs};
 ghost use Rattle.job_logs.specs.Lines.{log_words, saying};
 ghost use Rattle.job_logs.specs.Jobs.{judge_of, most_reads, records_in};
 
-use crate::court::LogCourt;
+use crate::checker::LogChecker;
 use disk_model::Disk;
 use job_files::logs::{LogStop, Report, judge_bytes, put_audit};
 use job_files::space_of;
@@ -33,13 +33,13 @@ fn judge_opened<D: Disk, K: Sink>(
     bytes: &[u8],
     out: &mut K,
 ) -> Result<Status, LogStop>
-    requires head { IsLawfulHead opened.now.0 }
+    requires head { IsValidHead opened.now.0 }
     requires pages { opened.now.1.pages ≤ 2 ^ 24 }
     ensures same { IsUnchanged (D.state index.old) (D.state index.new) }
-    ensures puts { IsTrue (D.state index.old).tells →
+    ensures puts { IsTrue (D.state index.old).is_known →
         Puts (on_logs log_words report (judge_of (D.state index.old).bytes opened.now.0 opened.now.1) (frames_at log_at bytes.now)).texts
         (K.state out.old).written (K.state out.new).written (stop_of result) }
-    ensures status { IfOk result (λ status. IsTrue (D.state index.old).tells →
+    ensures status { IfOk result (λ status. IsTrue (D.state index.old).is_known →
         status.0 ≡ (on_logs log_words report (judge_of (D.state index.old).bytes opened.now.0 opened.now.1)
         (frames_at log_at bytes.now)).status) }
     ensures statuses { IfOk result (λ status. (status.0 ≡ 0) ⊎ (status.0 ≡ 1)) }
@@ -56,12 +56,12 @@ fn judge_opened<D: Disk, K: Sink>(
     };
     let pages = DiskPages::new(index, head.dim, live.pages);
     let mut pages = Cached::from_parts(pages, kept);
-    let mut court = LogCourt {
+    let mut checker = LogChecker {
         space,
         live: *live,
         pages: &mut pages,
     };
-    let judged = judge_bytes(alloc, report, &mut court, bytes, out);
+    let judged = judge_bytes(alloc, report, &mut checker, bytes, out);
     let _index = pages.into_inner().disk;
     judged
 }
@@ -76,14 +76,14 @@ fn check_opened<D: Disk, K: Sink>(
     bytes: &[u8],
     out: &mut K,
 ) -> Result<Status, LogStop>
-    requires head { IsLawfulHead opened.now.0 }
+    requires head { IsValidHead opened.now.0 }
     requires pages { opened.now.1.pages ≤ 2 ^ 24 }
     ensures same { IsUnchanged (D.state index.old) (D.state index.new) }
-    ensures puts { IsTrue (D.state index.old).tells →
+    ensures puts { IsTrue (D.state index.old).is_known →
         Puts (saying Report.Answers (fault_of (D.state index.old).bytes opened.now.0 opened.now.1)
         (judge_of (D.state index.old).bytes opened.now.0 opened.now.1) (frames_at log_at bytes.now)).texts
         (K.state out.old).written (K.state out.new).written (stop_of result) }
-    ensures status { IfOk result (λ status. IsTrue (D.state index.old).tells →
+    ensures status { IfOk result (λ status. IsTrue (D.state index.old).is_known →
         status.0 ≡ (saying Report.Answers (fault_of (D.state index.old).bytes opened.now.0 opened.now.1)
         (judge_of (D.state index.old).bytes opened.now.0 opened.now.1) (frames_at log_at bytes.now)).status) }
     ensures statuses { IfOk result (λ status. (status.0 ≡ 0) ⊎ (status.0 ≡ 1)) }
@@ -110,14 +110,14 @@ pub fn report_on<D: Disk, K: Sink>(
     bytes: &[u8],
     out: &mut K,
 ) -> Result<Status, LogStop>
-    requires head { IsLawfulHead opened.now.0 }
+    requires head { IsValidHead opened.now.0 }
     requires pages { opened.now.1.pages ≤ 2 ^ 24 }
     ensures same { IsUnchanged (D.state index.old) (D.state index.new) }
-    ensures puts { IsTrue (D.state index.old).tells →
+    ensures puts { IsTrue (D.state index.old).is_known →
         Puts (saying report (fault_of (D.state index.old).bytes opened.now.0 opened.now.1)
         (judge_of (D.state index.old).bytes opened.now.0 opened.now.1) (frames_at log_at bytes.now)).texts
         (K.state out.old).written (K.state out.new).written (stop_of result) }
-    ensures status { IfOk result (λ status. IsTrue (D.state index.old).tells →
+    ensures status { IfOk result (λ status. IsTrue (D.state index.old).is_known →
         status.0 ≡ (saying report (fault_of (D.state index.old).bytes opened.now.0 opened.now.1)
         (judge_of (D.state index.old).bytes opened.now.0 opened.now.1) (frames_at log_at bytes.now)).status) }
     ensures statuses { IfOk result (λ status. (status.0 ≡ 0) ⊎ (status.0 ≡ 1)) }

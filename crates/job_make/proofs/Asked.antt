@@ -76,7 +76,7 @@ module _ {M : Type 0} (space : M → Space) (old mid new : OpenIndex M) (d0 d1 d
   same_metric = ap (λ (f : OpenFile M). f.metric) before.reads.rest
 
   objects_still : IsSoundOn (space old.file.metric) old.file d0 → points_on old.file d0 ≡ points → HasObjects (space old.file.metric) mid.file d1 points (tags_on old.file d0)
-  objects_still sound are = has_still (space old.file.metric) old.file mid.file d0 d1 points (tags_on old.file d0) before.reads (record { tells = sound.0; sound = sound.1; points_are = are; tags_are = refl })
+  objects_still sound are = has_still (space old.file.metric) old.file mid.file d0 d1 points (tags_on old.file d0) before.reads (record { is_known = sound.0; sound = sound.1; points_are = are; tags_are = refl })
 
   pub asked_more : MayGoOn new d2 → OnlyReads mid.file new.file d1 d2 → new ≡ record mid { file = new.file } → a.hits < 2 ^ 32 →
       (IsSoundOn (space mid.file.metric) mid.file d1 → IsAnswered (space mid.file.metric) (query_at t q) (points_on mid.file d1) a) → q ≡ point_asked points t →
@@ -91,7 +91,7 @@ module _ {M : Type 0} (space : M → Space) (old mid new : OpenIndex M) (d0 d1 d
     told = λ sound are.
         let has = objects_still sound are in
         let said = before.told sound are in
-        let ans : IsAnswered (space old.file.metric) (query_at t q) (points_on mid.file d1) a = subst (λ (m : M). IsSoundOn (space m) mid.file d1 → IsAnswered (space m) (query_at t q) (points_on mid.file d1) a) same_metric answered (has.tells, has.sound) in
+        let ans : IsAnswered (space old.file.metric) (query_at t q) (points_on mid.file d1) a = subst (λ (m : M). IsSoundOn (space m) mid.file d1 → IsAnswered (space m) (query_at t q) (points_on mid.file d1) a) same_metric answered (has.is_known, has.sound) in
         let hits : a.hits ≡ hits_at (space old.file.metric) points t = ans.hits ∙ ap (λ (ps : List (List ℕ)). length (scan_answers (space old.file.metric) (query_at t q) ps)) has.points_are
         ∙ ap (λ (p : List ℕ). length (scan_answers (space old.file.metric) (query_at t p) points)) is in
         let more = sum_by-map-range_with_len_more (λ (hits : ℕ). hits) (hits_at (space old.file.metric) points) 0 t t (omega arith) in

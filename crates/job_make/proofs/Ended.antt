@@ -74,18 +74,18 @@ module _ (out0 out1 : SinkState) (status : ℕ) where
 since : (head : Head) (points : List (List ℕ)) (tags : List ℕ) (d1 d2 : DiskState) → EachImage d1 d2 (HoldsNoneOrAll head points tags) → IsFilledSince head points tags d2
 since head points tags d1 d2 run = record { from = d1.clock; within = run.later; after = run.each }
 
-pub filled_since : (head : Head) (points : List (List ℕ)) (tags : List ℕ) (d0 d1 d2 : DiskState) → d1.tells ≡ d0.tells → (IsTrue d1.tells → EachImage d1 d2 (HoldsNoneOrAll head points tags)) → IsTrue d0.tells → IsFilledSince head points tags d2
-filled_since head points tags d0 d1 d2 told run tells = since head points tags d1 d2 (run (rw told tells))
+pub filled_since : (head : Head) (points : List (List ℕ)) (tags : List ℕ) (d0 d1 d2 : DiskState) → d1.is_known ≡ d0.is_known → (IsTrue d1.is_known → EachImage d1 d2 (HoldsNoneOrAll head points tags)) → IsTrue d0.is_known → IsFilledSince head points tags d2
+filled_since head points tags d0 d1 d2 told run is_known = since head points tags d1 d2 (run (rw told is_known))
 
 module _ (head : Head) (points : List (List ℕ)) (tags : List ℕ) (d0 : DiskState) (out0 out1 : SinkState) (status : ℕ) where
   -- the file held something
-  pub not_empty : (d1 : DiskState) → (IsTrue d0.tells → 0 < length d0.bytes) × IsUnchanged d0 d1 → status ≡ 6 → Tells out0 out1 (codes "fault notindex notempty\n") → IsUnfilled head points tags d0 d1 out0 out1 status
+  pub not_empty : (d1 : DiskState) → (IsTrue d0.is_known → 0 < length d0.bytes) × IsUnchanged d0 d1 → status ≡ 6 → Tells out0 out1 (codes "fault notindex notempty\n") → IsUnfilled head points tags d0 d1 out0 out1 status
   not_empty d1 cause six line = record {
     disk = λ is. absurd (omega (arith, six, is));
-    not_empty = λ is. (codes "notempty", line, λ tells. (refl, cause.0 tells, cause.1));
+    not_empty = λ is. (codes "notempty", line, λ is_known. (refl, cause.0 is_known, cause.1));
     memory = λ is. absurd (omega (arith, six, is));
     damaged = λ is. absurd (omega (arith, six, is));
-    left = λ tells. inl cause.1;
+    left = λ is_known. inl cause.1;
   }
 
   -- the disk failed while the index was made
@@ -95,16 +95,16 @@ module _ (head : Head) (points : List (List ℕ)) (tags : List ℕ) (d0 : DiskSt
     not_empty = λ is. absurd (omega (arith, five, is));
     memory = λ is. absurd (omega (arith, five, is));
     damaged = λ is. absurd (omega (arith, five, is));
-    left = λ tells. inr (inr (five, reads));
+    left = λ is_known. inr (inr (five, reads));
   }
 
   -- it was made, but not filled
-  pub unfilled : (d1 d2 : DiskState) → d1.tells ≡ d0.tells → d0.faults ≤ d1.faults → (fault : FillFault) → HasFillCause d1 d2 fault → (IsTrue d1.tells → EachImage d1 d2 (HoldsNoneOrAll head points tags)) →
+  pub unfilled : (d1 d2 : DiskState) → d1.is_known ≡ d0.is_known → d0.faults ≤ d1.faults → (fault : FillFault) → HasFillCause d1 d2 fault → (IsTrue d1.is_known → EachImage d1 d2 (HoldsNoneOrAll head points tags)) →
       EndsUnfilled fault out0 out1 status → IsUnfilled head points tags d0 d2 out0 out1 status
   unfilled d1 d2 told later fault cause run ends = record {
     disk = λ is. let e = ends.disk is in ((let r = rose_of d1 d2 fault e.0 cause in grind arith), e.1);
-    not_empty = λ is. let e = ends.other is in (e.1.0, e.1.1, λ tells. absurd (never_other d1 d2 fault e.0 cause (rw told tells)));
+    not_empty = λ is. let e = ends.other is in (e.1.0, e.1.1, λ is_known. absurd (never_other d1 d2 fault e.0 cause (rw told is_known)));
     memory = λ is. ends.memory is;
-    damaged = λ is. let e = ends.damaged is in ((λ tells. (let c : HasFillCause d1 d2 (fill.Damaged e.0) = subst (HasFillCause d1 d2) e.1 cause in c.1 (rw told tells))), e.0, e.2);
-    left = λ tells. inr (inl (filled_since head points tags d0 d1 d2 told run tells));
+    damaged = λ is. let e = ends.damaged is in ((λ is_known. (let c : HasFillCause d1 d2 (fill.Damaged e.0) = subst (HasFillCause d1 d2) e.1 cause in c.1 (rw told is_known))), e.0, e.2);
+    left = λ is_known. inr (inl (filled_since head points tags d0 d1 d2 told run is_known));
   }

@@ -20,15 +20,15 @@ both_flat f g [] all = omega arith
 both_flat f g (x ∷ xs) all =
     let here = all.0 in let rest = both_flat f g xs all.1 in let left = length-append (f x) (flat_map f xs) in let right = length-append (g x) (flat_map g xs) in omega arith
 
-module _ (s : Space) (few : s.words ≤ 64) where
+module _ (s : Space) (few : s.dimension ≤ 64) where
   -- below the root
-  nodes_below : (h : ℕ) (t : Plain h) → IsSoundPlain s h (least_for s.words) t → 2 * length (subtrees h t) + 1 ≤ length (objects_in h t)
-  nodes_below zero os sound = let three = three_at_least s.words few in let enough = sound.0.enough in omega arith
+  nodes_below : (h : ℕ) (t : Plain h) → IsSoundPlain s h (least_for s.dimension) t → 2 * length (subtrees h t) + 1 ≤ length (objects_in h t)
+  nodes_below zero os sound = let three = three_at_least s.dimension few in let enough = sound.0.enough in omega arith
   nodes_below (suc h) bs sound =
-      let three = three_at_least s.words few in
+      let three = three_at_least s.dimension few in
       let enough = sound.0.enough in
       let all = both_flat (λ (b : Branch (Plain h)). subtrees h b.below) (λ (b : Branch (Plain h)). objects_in h b.below) bs
-      (all_weaker (λ (b : Branch (Plain h)). IsTrue (s.fits b.point) × BranchCovers s h b × IsSoundPlain s h (least_for s.words) b.below)
+      (all_weaker (λ (b : Branch (Plain h)). IsTrue (s.is_point b.point) × BranchCovers s h b × IsSoundPlain s h (least_for s.dimension) b.below)
       (λ (b : Branch (Plain h)). 2 * length (subtrees h b.below) + 1 ≤ length (objects_in h b.below)) bs (λ b k. nodes_below h b.below k.2) sound.1) in
       let more = length-append (flat_map (λ (b : Branch (Plain h)). subtrees h b.below) bs) (record { height = suc h; tree = bs } ∷ []) in
       omega arith
@@ -38,7 +38,7 @@ module _ (s : Space) (few : s.words ≤ 64) where
   nodes_of_tree (suc h) bs sound =
       let enough = sound.0.enough in
       let all = both_flat (λ (b : Branch (Plain h)). subtrees h b.below) (λ (b : Branch (Plain h)). objects_in h b.below) bs
-      (all_weaker (λ (b : Branch (Plain h)). IsTrue (s.fits b.point) × BranchCovers s h b × IsSoundPlain s h (least_for s.words) b.below)
+      (all_weaker (λ (b : Branch (Plain h)). IsTrue (s.is_point b.point) × BranchCovers s h b × IsSoundPlain s h (least_for s.dimension) b.below)
       (λ (b : Branch (Plain h)). 2 * length (subtrees h b.below) + 1 ≤ length (objects_in h b.below)) bs (λ b k. nodes_below h b.below k.2) sound.1) in
       let more = length-append (flat_map (λ (b : Branch (Plain h)). subtrees h b.below) bs) (record { height = suc h; tree = bs } ∷ []) in
       omega arith
@@ -57,12 +57,12 @@ length-places k (suc n) = let rest = length-places (k + 1) n in omega arith
 one_at_least : (dim : ℕ) → dim ≤ 64 → 1 ≤ most_for dim
 one_at_least dim few = let three = three_at_least dim few in omega arith
 
-pub few_nodes : (s : Space) → IsSpace s → s.words ≤ 64 → (rows : List (List ℕ)) (labels : List ℕ) → AllByRecursion (λ p. IsTrue (s.fits p)) rows → 2 * node_count s rows labels ≤ length rows + 2
+pub few_nodes : (s : Space) → IsSpace s → s.dimension ≤ 64 → (rows : List (List ℕ)) (labels : List ℕ) → AllByRecursion (λ p. IsTrue (s.is_point p)) rows → 2 * node_count s rows labels ≤ length rows + 2
 few_nodes s space few rows labels fit =
-    let l : Load = record { space = s; points = rows; tags = labels; most = most_for s.words; least = least_for s.words } in
+    let l : Load = record { space = s; points = rows; tags = labels; most = most_for s.dimension; least = least_for s.dimension } in
     let tree = built s rows labels in
     let bound = nodes_of_tree s few tree.height tree.tree (load_is_sound s space rows labels fit) in
-    let kept = load_keeps_objects l (one_at_least s.words few) (λ _. true) in
+    let kept = load_keeps_objects l (one_at_least s.dimension few) (λ _. true) in
     let left = count_all (objects_of tree) in
     let right = count_all (map (object_at l) (places l)) in
     let mapped = length_map (object_at l) (places l) in

@@ -38,7 +38,7 @@ use Rattle.outside_io.proofs.Published.{rose_before}
 
 pub unchanged : (disk : DiskState) → IsUnchanged disk disk
 unchanged disk = record {
-  same_tells = refl;
+  same_known = refl;
   same_bytes = refl;
   same_images = λ image. (λ left. left, λ left. left);
   time = started disk (MayLeave disk) (λ image left. left);
@@ -47,24 +47,24 @@ unchanged disk = record {
 module _ (head : Head) (points : List (List ℕ)) (tags : List ℕ) (IsText : List ℕ → List ℕ → Type 0) (d0 : DiskState) (out0 out1 : SinkState) (status : ℕ) where
   pub no_memory : status ≡ 8 → Tells out0 out1 (codes "fault memory\n") → Fills head points tags IsText d0 d0 out0 out1 status
   no_memory eight line = record {
-    filled = λ tells is. absurd (⊎_elim (λ e. (let no : ⊥ = omega (arith, e, eight) in no)) (λ e. (let no : ⊥ = omega (arith, e, eight) in no)) is);
-    done = λ tells is. absurd (omega (arith, is, eight));
-    part = λ tells is. absurd (omega (arith, is, eight));
+    filled = λ is_known is. absurd (⊎_elim (λ e. (let no : ⊥ = omega (arith, e, eight) in no)) (λ e. (let no : ⊥ = omega (arith, e, eight) in no)) is);
+    done = λ is_known is. absurd (omega (arith, is, eight));
+    part = λ is_known is. absurd (omega (arith, is, eight));
     unfilled = record {
       disk = λ is. absurd (omega (arith, is, eight));
       not_empty = λ is. absurd (omega (arith, is, eight));
       memory = λ is. line;
       damaged = λ is. absurd (omega (arith, is, eight));
-      left = λ tells. inl (unchanged d0);
+      left = λ is_known. inl (unchanged d0);
     };
   }
 
   -- it was not filled
   pub refused : (d1 : DiskState) → IsUnfilled head points tags d0 d1 out0 out1 status → (status ≡ 5) ⊎ ((status ≡ 6) ⊎ ((status ≡ 8) ⊎ (status ≡ 9))) → Fills head points tags IsText d0 d1 out0 out1 status
   refused d1 un statuses = record {
-    filled = λ tells is. absurd (⊎_elim (λ e. (let no : ⊥ = omega (arith, e, low) in no)) (λ e. (let no : ⊥ = omega (arith, e, low) in no)) is);
-    done = λ tells is. absurd (omega (arith, is, low));
-    part = λ tells is. absurd (omega (arith, is, low));
+    filled = λ is_known is. absurd (⊎_elim (λ e. (let no : ⊥ = omega (arith, e, low) in no)) (λ e. (let no : ⊥ = omega (arith, e, low) in no)) is);
+    done = λ is_known is. absurd (omega (arith, is, low));
+    part = λ is_known is. absurd (omega (arith, is, low));
     unfilled = un;
   }
     where
@@ -73,10 +73,10 @@ module _ (head : Head) (points : List (List ℕ)) (tags : List ℕ) (IsText : Li
 
   -- ---- it was, and then only read
 
-  module _ (d1 d2 : DiskState) (file new : OpenFile MixSpace) (reads : OnlyReads file new d1 d2) (later : d0.faults ≤ d1.faults) (told : d1.tells ≡ d0.tells) (since : IsTrue d0.tells → IsFilledSince head points tags d1) where
-    pub still_since : IsTrue d0.tells → IsFilledSince head points tags d2
-    still_since tells =
-        let s = since tells in
+  module _ (d1 d2 : DiskState) (file new : OpenFile MixSpace) (reads : OnlyReads file new d1 d2) (later : d0.faults ≤ d1.faults) (told : d1.is_known ≡ d0.is_known) (since : IsTrue d0.is_known → IsFilledSince head points tags d1) where
+    pub still_since : IsTrue d0.is_known → IsFilledSince head points tags d2
+    still_since is_known =
+        let s = since is_known in
         record {
           from = s.from;
           within = (let w = s.within in let l = reads.same.time.later in omega arith);
@@ -87,15 +87,15 @@ module _ (head : Head) (points : List (List ℕ)) (tags : List ℕ) (IsText : Li
         }
 
     -- the search or the check of a log stopped
-    pub stopped : (Sound : Type 0) (fault : PageFault) → (IsTrue d0.tells → Sound) → HasAskCause Sound d1 d2 fault → (status ≡ 5 → (fault ≡ page.Disk) × Tells out0 out1 (codes "fault disk\n")) →
+    pub stopped : (Sound : Type 0) (fault : PageFault) → (IsTrue d0.is_known → Sound) → HasAskCause Sound d1 d2 fault → (status ≡ 5 → (fault ≡ page.Disk) × Tells out0 out1 (codes "fault disk\n")) →
         (status ≡ 8 → Tells out0 out1 (codes "fault memory\n")) → (status ≡ 9 → (IsPassing fault → ⊥) × Tells out0 out1 (damaged_text fault)) → (status ≡ 5) ⊎ ((status ≡ 8) ⊎ (status ≡ 9)) →
         Fills head points tags IsText d0 d2 out0 out1 status
     stopped Sound fault sound cause five eight nine statuses = refused d2 (record {
       disk = λ is. (rose_before d0.faults d1.faults d2.faults later (subst (HasAskCause Sound d1 d2) (five is).0 cause), (five is).1);
       not_empty = λ is. absurd (elim statuses [ inl e ↦ omega (arith, e, is) | inr (inl e) ↦ omega (arith, e, is) | inr (inr e) ↦ omega (arith, e, is) ]);
       memory = eight;
-      damaged = λ is. ((λ tells. never fault (nine is).0 cause (sound tells)), fault, (nine is).1);
-      left = λ tells. inr (inl (still_since tells));
+      damaged = λ is. ((λ is_known. never fault (nine is).0 cause (sound is_known)), fault, (nine is).1);
+      left = λ is_known. inr (inl (still_since is_known));
     }) (elim statuses [ inl e ↦ inl e | inr (inl e) ↦ inr (inr (inl e)) | inr (inr e) ↦ inr (inr (inr e)) ])
       where
         never : (f : PageFault) → (IsPassing f → ⊥) → HasAskCause Sound d1 d2 f → Sound → ⊥
@@ -108,17 +108,17 @@ module _ (head : Head) (points : List (List ℕ)) (tags : List ℕ) (IsText : Li
 
     -- the text was written
     pub written : (text : List ℕ) → (status ≡ 0) ⊎ (status ≡ 4) → (status ≡ 0 → Appends out0.written out1.written text) → (status ≡ 4 → AppendsPrefix out0.written out1.written text) →
-        (IsTrue d0.tells → (length d0.bytes ≡ 0) × IsFull head points tags d2.bytes × LeavesOnly d2 d2.bytes) → (IsTrue d0.tells → IsText d2.bytes text) → Fills head points tags IsText d0 d2 out0 out1 status
+        (IsTrue d0.is_known → (length d0.bytes ≡ 0) × IsFull head points tags d2.bytes × LeavesOnly d2 d2.bytes) → (IsTrue d0.is_known → IsText d2.bytes text) → Fills head points tags IsText d0 d2 out0 out1 status
     written text statuses done part full is = record {
-      filled = λ tells either. full tells;
-      done = λ tells zero. (text, is tells, done zero);
-      part = λ tells four. (text, is tells, part four);
+      filled = λ is_known either. full is_known;
+      done = λ is_known zero. (text, is is_known, done zero);
+      part = λ is_known four. (text, is is_known, part four);
       unfilled = record {
         disk = λ five. absurd (elim statuses [ inl e ↦ omega (arith, e, five) | inr e ↦ omega (arith, e, five) ]);
         not_empty = λ six. absurd (elim statuses [ inl e ↦ omega (arith, e, six) | inr e ↦ omega (arith, e, six) ]);
         memory = λ eight. absurd (elim statuses [ inl e ↦ omega (arith, e, eight) | inr e ↦ omega (arith, e, eight) ]);
         damaged = λ nine. absurd (elim statuses [ inl e ↦ omega (arith, e, nine) | inr e ↦ omega (arith, e, nine) ]);
-        left = λ tells. inr (inl (still_since tells));
+        left = λ is_known. inr (inl (still_since is_known));
       };
     }
 
@@ -131,9 +131,9 @@ module _ (head : Head) (version : head.version ≡ 2) (points : List (List ℕ))
     where
       at : IsFilled i.file.head points tags d1 i → IsFileOf (space_of i.file.head) i.file.head i.file.live points tags d2.bytes
       at has = subst (λ (b : List ℕ). IsFileOf (space_of i.file.head) i.file.head i.file.live points tags b) (sym reads.same.same_bytes) (record {
-        opens = (stands going).stands.opens has.objects.tells;
+        opens = (stands going).stands.opens has.objects.is_known;
         version = ap (λ (h : Head). h.version) heads ∙ version;
-        words = refl;
+        dimension = refl;
         tree = record { sound = has.objects.sound; points_are = has.objects.points_are; tags_are = has.objects.tags_are };
       })
 
@@ -146,7 +146,7 @@ module _ (head : Head) (version : head.version ≡ 2) (points : List (List ℕ))
   is_full = record { live = i.file.live; is = file_is; tree = tree_is }
 
   pub leaves_only : LeavesOnly d2 d2.bytes
-  leaves_only image left = (stands going).only filled.objects.tells image ((reads.same.same_images image).0 left) ∙ sym reads.same.same_bytes
+  leaves_only image left = (stands going).only filled.objects.is_known image ((reads.same.same_images image).0 left) ∙ sym reads.same.same_bytes
 
 length-points_from : (es : List LeafEntry) (id n : ℕ) → length (points_from es id n) ≡ n
 length-points_from es id zero = refl
@@ -154,14 +154,14 @@ length-points_from es id (suc n) = let rest = length-points_from es (id + 1) n i
 
 pub is_sound : (head : Head) (points : List (List ℕ)) (tags : List ℕ) (d1 : DiskState) (i : OpenIndex MixSpace) → mix_kind i.file.metric ≡ head.kind → mix_dim i.file.metric ≡ head.dim → IsFilled head points tags d1 i →
     IsSoundOn (mix_space (mix_kind i.file.metric) (mix_dim i.file.metric)) i.file d1
-is_sound head points tags d1 i kind dim filled = rw (kind, dim) (filled.objects.tells, filled.objects.sound)
+is_sound head points tags d1 i kind dim filled = rw (kind, dim) (filled.objects.is_known, filled.objects.sound)
 
 -- ---- its summary
 
 module _ (asked : Generation) (version : asked.head.version ≡ 2) (d1 d2 : DiskState) (i j : OpenIndex MixSpace) (heads : i.file.head ≡ asked.head) (kind : mix_kind i.file.metric ≡ asked.head.kind) (dim : mix_dim i.file.metric ≡ asked.head.dim)
     (filled : IsFilled asked.head (points_of asked) (ids_of asked) d1 i) (stands : MayGoOn i d1) (going : i.stopped ≡ false) (reads : OnlyReads i.file j.file d1 d2) (points : List (List ℕ)) (is : points ≡ points_of asked) where
   sound : IsSoundOn (mix_space (mix_kind i.file.metric) (mix_dim i.file.metric)) i.file d1
-  sound = rw (kind, dim) (filled.objects.tells, filled.objects.sound)
+  sound = rw (kind, dim) (filled.objects.is_known, filled.objects.sound)
 
   count : i.file.live.count ≡ asked.count
   count =

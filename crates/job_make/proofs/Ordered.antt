@@ -125,10 +125,10 @@ module _ (s : Space) (nodes : Nodes) (t : Live) (sound : IsSoundTree s nodes t) 
   pub sorted_tags : AreNumbered 0 sorted → length sorted ≡ t.count → map (λ e. e.tag) sorted ≡ tags_by_id nodes t
   sorted_tags numbers long = tags_in_order (objects nodes t) sorted 0 once numbers sorted_in ∙ ap (tags_from (objects nodes t) 0) long
 
-  pub sorted_fits : AllByRecursion (λ o. IsTrue (s.fits o.point)) (objects nodes t) → AreInSpace s sorted
+  pub sorted_fits : AllByRecursion (λ o. IsTrue (s.is_point o.point)) (objects nodes t) → AreInSpace s sorted
   sorted_fits fit =
-      recursion_from_All (λ (e : LeafEntry). IsTrue (s.fits e.point)) sorted (All-permutation (λ (e : LeafEntry). IsTrue (s.fits e.point)) found sorted moved
-      (All-from_recursion (λ (e : LeafEntry). IsTrue (s.fits e.point)) found (subst (λ (es : List LeafEntry). AllByRecursion (λ o. IsTrue (s.fits o.point)) es) (sym are) fit)))
+      recursion_from_All (λ (e : LeafEntry). IsTrue (s.is_point e.point)) sorted (All-permutation (λ (e : LeafEntry). IsTrue (s.is_point e.point)) found sorted moved
+      (All-from_recursion (λ (e : LeafEntry). IsTrue (s.is_point e.point)) found (subst (λ (es : List LeafEntry). AllByRecursion (λ o. IsTrue (s.is_point o.point)) es) (sym are) fit)))
 
 -- a sound tree has as many objects as its slot says
 pub found_count : (s : Space) (nodes : Nodes) (t : Live) (found : List LeafEntry) → IsSoundTree s nodes t → found ≡ objects nodes t → length found ≡ t.count
@@ -140,10 +140,10 @@ pub if_taken : {T E : Type 0} (P R : T → Type 0) (Q : Type 0) (r : Result T E)
 if_taken P R Q (Ok x) p q f = f x p q
 if_taken P R Q (Err e) p q f = tt
 
-pub all_fit : (s : Space) (es : List LeafEntry) (points : List (List ℕ)) → points ≡ map (λ e. e.point) es → AreInSpace s es → All (λ p. IsTrue (s.fits p)) points
-all_fit s es points are fit = subst (λ (ps : List (List ℕ)). All (λ p. IsTrue (s.fits p)) ps) (sym are) (All-from_recursion (λ (p : List ℕ). IsTrue (s.fits p)) (map (λ e. e.point) es) (each es fit))
+pub all_fit : (s : Space) (es : List LeafEntry) (points : List (List ℕ)) → points ≡ map (λ e. e.point) es → AreInSpace s es → All (λ p. IsTrue (s.is_point p)) points
+all_fit s es points are fit = subst (λ (ps : List (List ℕ)). All (λ p. IsTrue (s.is_point p)) ps) (sym are) (All-from_recursion (λ (p : List ℕ). IsTrue (s.is_point p)) (map (λ e. e.point) es) (each es fit))
   where
-    each : (es : List LeafEntry) → AreInSpace s es → AllByRecursion (λ p. IsTrue (s.fits p)) (map (λ e. e.point) es)
+    each : (es : List LeafEntry) → AreInSpace s es → AllByRecursion (λ p. IsTrue (s.is_point p)) (map (λ e. e.point) es)
     each [] fit = tt
     each (e ∷ es) fit = (fit.0, each es fit.1)
 

@@ -7,7 +7,7 @@ use Rattle.std.proofs.lemmas.List.Sums.{list_all-from_AllPass}
 use Rattle.vector_kinds.specs.Vectors.{is_vector}
 use Rattle.metric_mix.specs.MixSpaces.{VectorsFit}
 use Rattle.node_page.specs.declared.head.Head.{Head}
-use Rattle.node_page.specs.Heads.{IsLawfulHead}
+use Rattle.node_page.specs.Heads.{IsValidHead}
 use Rattle.job_files.proofs.Published.{space_by_head}
 use Rattle.job_files.specs.Spaces.{space_of}
 use Rattle.std.proofs.lemmas.List.FromFn.{get_or-map-range_with_len, length-map-range_with_len, map-range_with_len_more}
@@ -44,11 +44,11 @@ row_is_vector seed dim i = rw (same_test (length (generated_row seed dim i)) dim
     each = list_all-from_AllPass (λ x. nat_lt x (2 ^ 32)) (generated_row seed dim i) (λ k d lt.
         rw (get_or-map-range_with_len (coordinate seed i) 0 dim k k d (let l = row_length seed dim i in omega (arith, lt, l)) (omega arith)) (low_number _))
 
-pub rows_fit : VectorsFit → (head : Head) → IsLawfulHead head → (head.kind ≢ 4) × (head.kind ≢ 5) → (seed count : ℕ) (points : List (List ℕ)) → points ≡ generated_rows seed head.dim count → All (λ p. IsTrue ((space_of head).fits p)) points
-rows_fit law head lawful vectors seed count points is k d lt =
-    let has = space_by_head head.kind head.dim lawful.space in
+pub rows_fit : VectorsFit → (head : Head) → IsValidHead head → (head.kind ≢ 4) × (head.kind ≢ 5) → (seed count : ℕ) (points : List (List ℕ)) → points ≡ generated_rows seed head.dim count → All (λ p. IsTrue ((space_of head).is_point p)) points
+rows_fit law head valid vectors seed count points is k d lt =
+    let has = space_by_head head.kind head.dim valid.space in
     let there : k ≤ count = let n = length-map-range_with_len (generated_row seed head.dim) 0 count in let l = ap length is in omega (arith, lt, n, l) in
-    law head.kind head.dim has.low_kind has.high_kind has.lawful vectors.0 vectors.1 _
+    law head.kind head.dim has.low_kind has.high_kind has.valid vectors.0 vectors.1 _
     (rw (is, get_or-map-range_with_len (generated_row seed head.dim) 0 count k k d (let n = length-map-range_with_len (generated_row seed head.dim) 0 count in let l = ap length is in omega (arith, lt, n, l)) (omega arith))
     (row_is_vector seed head.dim k))
 

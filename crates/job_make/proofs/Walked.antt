@@ -50,7 +50,7 @@ record AreFront (s : Space) (nodes : Nodes) (t : Live) (found : List LeafEntry) 
 -- a walk has opened `opened` pages and found the objects `found`; the pages `coming` are still to be opened
 pub record IsCollecting (old now : Shelf) (t : Live) (found : List LeafEntry) (opened : ℕ) (coming : List ℕ) : Type 0 where
   pub same : HoldsSame old now
-  front : IsTrue old.tells → (s : Space) → IsSoundTree s (nodes_of old.read) t → AreFront s (nodes_of old.read) t found opened coming
+  front : IsTrue old.is_known → (s : Space) → IsSoundTree s (nodes_of old.read) t → AreFront s (nodes_of old.read) t found opened coming
 
 abbrev children : Option Node → List ℕ
 children o = map (λ e. e.child) (inner_entries o)
@@ -69,13 +69,13 @@ module _ (s : Space) (nodes : Nodes) (t : Live) where
 
   -- the subtrees of a node's entries
   abbrev spot_of : ℕ → InnerEntry → Spot
-  spot_of h e = record { page = e.child; height = h; least = least_for s.words; above = Some e.point }
+  spot_of h e = record { page = e.child; height = h; least = least_for s.dimension; above = Some e.point }
 
   abbrev spots_of : ℕ → List InnerEntry → List Spot
   spots_of h es = map (spot_of h) es
 
   spots_sound : (h : ℕ) (above : Option (List ℕ)) (es : List InnerEntry) →
-      AllByRecursion (λ e. IsSoundEntry s above (objects_at nodes h e.child) e × IsSoundAt s nodes h (least_for s.words) (Some e.point) e.child) es →
+      AllByRecursion (λ e. IsSoundEntry s above (objects_at nodes h e.child) e × IsSoundAt s nodes h (least_for s.dimension) (Some e.point) e.child) es →
       AllByRecursion (IsSoundSpot s nodes) (spots_of h es)
   spots_sound h above [] all = tt
   spots_sound h above (e ∷ es) all = (all.0.1, spots_sound h above es all.1)
@@ -169,47 +169,47 @@ module _ (s : Space) (nodes : Nodes) (t : Live) where
 module _ (old : Shelf) (t : Live) where
   pub begins : IsCollecting old old t [] 0 (t.root ∷ [])
   begins = record {
-    same = record { dim = refl; pages = refl; tells = refl; read = refl; faults = (omega arith) };
-    front = λ tells s sound. front_begins s (nodes_of old.read) t sound;
+    same = record { dim = refl; pages = refl; is_known = refl; read = refl; faults = (omega arith) };
+    front = λ is_known s sound. front_begins s (nodes_of old.read) t sound;
   }
 
   module _ (now : Shelf) (found : List LeafEntry) (opened page : ℕ) (rest : List ℕ) (before : IsCollecting old now t found opened (page ∷ rest)) where
     pub goes_on : (new : Shelf) (found' : List LeafEntry) (coming : List ℕ) → HoldsSame now new → IsOpened now page found found' rest coming → IsCollecting old new t found' (opened + 1) coming
     goes_on new found' coming same was = record {
       same = holds_both old now new before.same same;
-      front = λ tells s sound.
+      front = λ is_known s sound.
           subst (λ (c : List ℕ). AreFront s (nodes_of old.read) t found' (opened + 1) c) (sym was.coming_are)
           (subst (λ (f : List LeafEntry). AreFront s (nodes_of old.read) t f (opened + 1) (children (Some was.node) ++ rest)) (sym was.found_are)
-          (front_goes_on s (nodes_of old.read) t found opened page rest was.node (told_then old now page was.node before.same was.is tells) (before.front tells s sound)));
+          (front_goes_on s (nodes_of old.read) t found opened page rest was.node (told_then old now page was.node before.same was.is is_known) (before.front is_known s sound)));
     }
 
     pub disk_rose : (new : Shelf) (fault : PageFault) → HasPageCause now new page fault → fault ≡ Disk → Rose old.faults new.faults
     disk_rose new fault cause is = let c : Rose now.faults new.faults = subst (HasPageCause now new page) is cause in let l = before.same.faults in omega (arith, c, l)
 
-    inside : IsTrue old.tells → (s : Space) → IsSoundTree s (nodes_of old.read) t → (opened < t.pages) × ((node : Node) × (nodes_of old.read page ≡ Some node))
-    inside tells s sound = front_inside s (nodes_of old.read) t found opened page rest sound (before.front tells s sound)
+    inside : IsTrue old.is_known → (s : Space) → IsSoundTree s (nodes_of old.read) t → (opened < t.pages) × ((node : Node) × (nodes_of old.read page ≡ Some node))
+    inside is_known s sound = front_inside s (nodes_of old.read) t found opened page rest sound (before.front is_known s sound)
 
-    pub has_room : opened ≡ t.pages → IsTrue old.tells → (s : Space) → IsSoundTree s (nodes_of old.read) t → ⊥
-    has_room all tells s sound = let r = (inside tells s sound).0 in omega (arith, r, all)
+    pub has_room : opened ≡ t.pages → IsTrue old.is_known → (s : Space) → IsSoundTree s (nodes_of old.read) t → ⊥
+    has_room all is_known s sound = let r = (inside is_known s sound).0 in omega (arith, r, all)
 
-    no_node : (fault : PageFault) → now.read page ≡ Err fault → IsTrue old.tells → (s : Space) → IsSoundTree s (nodes_of old.read) t → ⊥
-    no_node fault is tells s sound =
-        let there = (inside tells s sound).1 in
+    no_node : (fault : PageFault) → now.read page ≡ Err fault → IsTrue old.is_known → (s : Space) → IsSoundTree s (nodes_of old.read) t → ⊥
+    no_node fault is is_known s sound =
+        let there = (inside is_known s sound).1 in
         let some : nodes_of old.read page ≡ Some there.0 = there.1 in
         let none : nodes_of old.read page ≡ None = ap (λ (r : Read). node_or_none (r page)) (sym before.same.read) ∙ ap node_or_none is in
         cc
 
-    told : IsTrue old.tells → IsTrue now.tells
-    told tells = rw before.same.tells tells
+    told : IsTrue old.is_known → IsTrue now.is_known
+    told is_known = rw before.same.is_known is_known
 
     -- on a sound tree only a passing fault is refused
-    pub passes : (new : Shelf) (fault : PageFault) → HasPageCause now new page fault → IsTrue old.tells → (s : Space) → IsSoundTree s (nodes_of old.read) t → IsPassing fault
-    passes new Disk cause tells s sound = tt
-    passes new Memory cause tells s sound = tt
-    passes new (Bad p fault) cause tells s sound = absurd (no_node (Bad page fault) (cause.3 (told tells)) tells s sound)
-    passes new (Outside p) cause tells s sound = absurd (no_node (Outside page) (cause.2 (told tells)) tells s sound)
-    passes new (Repeats p) cause tells s sound = absurd cause
-    passes new (Level p) cause tells s sound = absurd cause
+    pub passes : (new : Shelf) (fault : PageFault) → HasPageCause now new page fault → IsTrue old.is_known → (s : Space) → IsSoundTree s (nodes_of old.read) t → IsPassing fault
+    passes new Disk cause is_known s sound = tt
+    passes new Memory cause is_known s sound = tt
+    passes new (Bad p fault) cause is_known s sound = absurd (no_node (Bad page fault) (cause.3 (told is_known)) is_known s sound)
+    passes new (Outside p) cause is_known s sound = absurd (no_node (Outside page) (cause.2 (told is_known)) is_known s sound)
+    passes new (Repeats p) cause is_known s sound = absurd cause
+    passes new (Level p) cause is_known s sound = absurd cause
 
-  pub ends : (now : Shelf) (found : List LeafEntry) (opened : ℕ) → IsCollecting old now t found opened [] → IsTrue old.tells → (s : Space) → IsSoundTree s (nodes_of old.read) t → found ≡ objects (nodes_of old.read) t
-  ends now found opened done tells s sound = front_ends s (nodes_of old.read) t found opened (done.front tells s sound)
+  pub ends : (now : Shelf) (found : List LeafEntry) (opened : ℕ) → IsCollecting old now t found opened [] → IsTrue old.is_known → (s : Space) → IsSoundTree s (nodes_of old.read) t → found ≡ objects (nodes_of old.read) t
+  ends now found opened done is_known s sound = front_ends s (nodes_of old.read) t found opened (done.front is_known s sound)

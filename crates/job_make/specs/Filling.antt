@@ -48,9 +48,9 @@ fault_of index.Worn = fill.Changed
 abbrev pub HasFillCause : DiskState → DiskState → FillFault → Type 0
 HasFillCause old new fill.Disk = Rose old.faults new.faults
 HasFillCause old new fill.Memory = Unit {0}
-HasFillCause old new (fill.Unopened why) = (why ≡ open_fault.Disk → Rose old.faults new.faults) × (IsTrue old.tells → why ≡ open_fault.Disk)
-HasFillCause old new fill.Changed = IsTrue old.tells → ⊥
-HasFillCause old new (fill.Damaged page) = IsDamage page × (IsTrue old.tells → ⊥)
+HasFillCause old new (fill.Unopened why) = (why ≡ open_fault.Disk → Rose old.faults new.faults) × (IsTrue old.is_known → why ≡ open_fault.Disk)
+HasFillCause old new fill.Changed = IsTrue old.is_known → ⊥
+HasFillCause old new (fill.Damaged page) = IsDamage page × (IsTrue old.is_known → ⊥)
 
 -- the disk failed
 abbrev pub IsDiskFault : FillFault → Type 0

@@ -47,19 +47,19 @@ IsUnmade disk0 disk1 status = (status ≡ 5) × (disk1.reads ≡ disk0.reads)
 pub record IsUnfilled (head : Head) (points : List (List ℕ)) (tags : List ℕ) (disk0 disk1 : DiskState) (out0 out1 : SinkState) (status : ℕ) : Type 0 where
   pub disk : status ≡ 5 → Rose disk0.faults disk1.faults × Tells out0 out1 (codes "fault disk\n")
   pub not_empty : status ≡ 6 → (name : List ℕ) × Tells out0 out1 (not_index_text name)
-      × (IsTrue disk0.tells → (name ≡ codes "notempty") × (0 < length disk0.bytes) × IsUnchanged disk0 disk1)
+      × (IsTrue disk0.is_known → (name ≡ codes "notempty") × (0 < length disk0.bytes) × IsUnchanged disk0 disk1)
   pub memory : status ≡ 8 → Tells out0 out1 (codes "fault memory\n")
-  pub damaged : status ≡ 9 → (IsTrue disk0.tells → ⊥) × (fault : PageFault) × Tells out0 out1 (damaged_text fault)
+  pub damaged : status ≡ 9 → (IsTrue disk0.is_known → ⊥) × (fault : PageFault) × Tells out0 out1 (damaged_text fault)
   -- what a crash leaves: the same as before; or the index, with no object or with all objects; or else the index was not made
-  pub left : IsTrue disk0.tells → IsUnchanged disk0 disk1 ⊎ (IsFilledSince head points tags disk1 ⊎ IsUnmade disk0 disk1 status)
+  pub left : IsTrue disk0.is_known → IsUnchanged disk0 disk1 ⊎ (IsFilledSince head points tags disk1 ⊎ IsUnmade disk0 disk1 status)
 
 -- What a job does that makes an index with this head in an empty file, fills it with these objects, and then writes a text about the
 -- file.
 pub record Fills (head : Head) (points : List (List ℕ)) (tags : List ℕ) (IsText : List ℕ → List ℕ →
     Type 0) (disk0 disk1 : DiskState) (out0 out1 : SinkState) (status : ℕ) : Type 0 where
-  pub filled : IsTrue disk0.tells → (status ≡ 0) ⊎ (status ≡ 4) → (length disk0.bytes ≡ 0) × IsFull head points tags disk1.bytes × LeavesOnly disk1 disk1.bytes
-  pub done : IsTrue disk0.tells → status ≡ 0 → (text : List ℕ) × IsText disk1.bytes text × Appends out0.written out1.written text
-  pub part : IsTrue disk0.tells → status ≡ 4 → (text : List ℕ) × IsText disk1.bytes text × AppendsPrefix out0.written out1.written text
+  pub filled : IsTrue disk0.is_known → (status ≡ 0) ⊎ (status ≡ 4) → (length disk0.bytes ≡ 0) × IsFull head points tags disk1.bytes × LeavesOnly disk1 disk1.bytes
+  pub done : IsTrue disk0.is_known → status ≡ 0 → (text : List ℕ) × IsText disk1.bytes text × Appends out0.written out1.written text
+  pub part : IsTrue disk0.is_known → status ≡ 4 → (text : List ℕ) × IsText disk1.bytes text × AppendsPrefix out0.written out1.written text
   pub unfilled : IsUnfilled head points tags disk0 disk1 out0 out1 status
 
 -- ---- generated indexes

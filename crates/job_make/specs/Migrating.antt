@@ -61,10 +61,10 @@ IsNoOldFile file name =
 -- Why the objects of a tree were not taken: the disk failed, or memory ran out. Otherwise it is the fault of the tree, where its
 -- pages tell it. `before` and `now` count the faults of its pages.
 abbrev pub HasOldFault : Bool → ℕ → ℕ → Option AuditFault → AuditFault → Type 0
-HasOldFault tells before now told audit.Memory = Unit {0}
-HasOldFault tells before now told (audit.Page page.Disk) = Rose before now
-HasOldFault tells before now told (audit.Page page.Memory) = ⊥
-HasOldFault tells before now told fault = IsTrue tells → told ≡ Some fault
+HasOldFault is_known before now told audit.Memory = Unit {0}
+HasOldFault is_known before now told (audit.Page page.Disk) = Rose before now
+HasOldFault is_known before now told (audit.Page page.Memory) = ⊥
+HasOldFault is_known before now told fault = IsTrue is_known → told ≡ Some fault
 
 -- ---- the job
 
@@ -80,7 +80,7 @@ migrated_text n = counted (codes "migrated ") n
 -- ran out.
 pub record RefusesNew (new0 new1 : DiskState) (out0 out1 : SinkState) (status : ℕ) : Type 0 where
   pub disk : status ≡ 5 → Rose new0.faults new1.faults × Tells out0 out1 (codes "fault disk\n")
-  pub not_empty : status ≡ 6 → (IsTrue new0.tells → 0 < length new0.bytes) × Tells out0 out1 (not_index_text (codes "notempty"))
+  pub not_empty : status ≡ 6 → (IsTrue new0.is_known → 0 < length new0.bytes) × Tells out0 out1 (not_index_text (codes "notempty"))
   pub memory : status ≡ 8 → Tells out0 out1 (codes "fault memory\n")
   pub statuses : (status ≡ 5) ⊎ ((status ≡ 6) ⊎ (status ≡ 8))
 
@@ -88,11 +88,11 @@ pub record RefusesNew (new0 new1 : DiskState) (out0 out1 : SinkState) (status : 
 -- disk failed; 6: it does not open, or is of version 2; 8: memory ran out.
 pub record RefusesOld (old0 old1 : DiskState) (out0 out1 : SinkState) (status : ℕ) : Type 0 where
   pub rejected : status ≡ 1 → (fault : AuditFault) × Appends out0.written out1.written (rejected_text fault)
-      × (IsTrue old0.tells → IsOldRejected old0.bytes fault)
+      × (IsTrue old0.is_known → IsOldRejected old0.bytes fault)
   pub part : status ≡ 4 → (fault : AuditFault) × AppendsPrefix out0.written out1.written (rejected_text fault)
-      × (IsTrue old0.tells → IsOldRejected old0.bytes fault)
+      × (IsTrue old0.is_known → IsOldRejected old0.bytes fault)
   pub disk : status ≡ 5 → Rose old0.faults old1.faults × Tells out0 out1 (codes "fault disk\n")
-  pub not_old : status ≡ 6 → (name : List ℕ) × Tells out0 out1 (not_index_text name) × (IsTrue old0.tells → IsNoOldFile old0.bytes name)
+  pub not_old : status ≡ 6 → (name : List ℕ) × Tells out0 out1 (not_index_text name) × (IsTrue old0.is_known → IsNoOldFile old0.bytes name)
   pub memory : status ≡ 8 → Tells out0 out1 (codes "fault memory\n")
   pub statuses : (status ≡ 1) ⊎ ((status ≡ 4) ⊎ ((status ≡ 5) ⊎ ((status ≡ 6) ⊎ (status ≡ 8))))
 
@@ -101,7 +101,7 @@ pub record Moves (new0 new1 old0 : DiskState) (out0 out1 : SinkState) (status : 
   pub head : Head
   pub points : List (List ℕ)
   pub tags : List ℕ
-  pub old_is : IsTrue old0.tells → IsOldFile head points tags old0.bytes
+  pub old_is : IsTrue old0.is_known → IsOldFile head points tags old0.bytes
   pub fills : Fills (renewed head) points tags (λ file text. text ≡ migrated_text (length points)) new0 new1 out0 out1 status
   pub statuses : IsFillStatus status
 
@@ -110,7 +110,7 @@ pub record Migrates (new0 new1 old0 old1 : DiskState) (out0 out1 : SinkState) (s
   pub old_same : IsUnchanged old0 old1
   pub ends :
       (IsUnchanged new0 new1 × RefusesNew new0 new1 out0 out1 status)
-      ⊎ ((IsTrue new0.tells → length new0.bytes ≡ 0)
+      ⊎ ((IsTrue new0.is_known → length new0.bytes ≡ 0)
       × ((IsUnchanged new0 new1 × RefusesOld old0 old1 out0 out1 status) ⊎ Moves new0 new1 old0 out0 out1 status))
 
 -- the statuses with which `migrate` may end
@@ -120,6 +120,6 @@ IsMigrateStatus n = (n ≡ 0) ⊎ ((n ≡ 1) ⊎ ((n ≡ 4) ⊎ ((n ≡ 5) ⊎ (
 -- with an empty new file and a sound old file of version 1 nothing is refused
 abbrev pub RefusesNothing : DiskState → DiskState → ℕ → Type 0
 RefusesNothing new0 old0 status =
-    IsTrue new0.tells → IsTrue old0.tells → length new0.bytes ≡ 0 → (head : Head) (points : List (List ℕ)) (tags : List ℕ) →
+    IsTrue new0.is_known → IsTrue old0.is_known → length new0.bytes ≡ 0 → (head : Head) (points : List (List ℕ)) (tags : List ℕ) →
     IsOldFile head points tags old0.bytes →
     (status ≢ 1) × (status ≢ 6) × (status ≢ 9)

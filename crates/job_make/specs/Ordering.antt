@@ -16,7 +16,7 @@ AreNumbered id (e ∷ es) = (e.id ≡ id) × AreNumbered (id + 1) es
 
 -- each point is one of the space
 abbrev pub AreInSpace : Space → List LeafEntry → Type 0
-AreInSpace s es = AllByRecursion (λ e. IsTrue (s.fits e.point)) es
+AreInSpace s es = AllByRecursion (λ e. IsTrue (s.is_point e.point)) es
 
 -- why objects were not taken: the disk failed, or memory ran out; where the tree is not sound, also because of what the tree holds
 abbrev pub HasTakingCause : Type 0 → ℕ → ℕ → AuditFault → Type 0

@@ -2,7 +2,7 @@
 ghost use Rattle.std.specs.Prelude.{◌≡◌, ◌≤◌, ◌<◌, ◌*◌, ◌^◌, true, false, length, All, IsTrue, IfOk, IfErr};
 ghost use Rattle.outside_io.specs.Causes.{Rose};
 ghost use Rattle.disk_model.specs.Disk.{IsUnchanged};
-ghost use Rattle.log_model.specs.Grammar.{IsLawfulLog};
+ghost use Rattle.log_model.specs.Grammar.{IsValidLog};
 ghost use Rattle.log_model.specs.Sound.{IsSoundLog};
 ghost use Rattle.page_store.specs.Reading.{nodes_of, reading};
 ghost use Rattle.page_store.specs.Shelf.{IsPassing};
@@ -67,7 +67,7 @@ fn search<M: Metric, D: Disk>(
 ) -> Result<Found, IndexFault>
     requires going { index.old.stopped ≡ false }
     requires stands { MayGoOn index.old (D.state disk.old) }
-    requires point { IsTrue ((M.space index.old.file.metric).fits q.now) }
+    requires point { IsTrue ((M.space index.old.file.metric).is_point q.now) }
     ensures stands { MayGoOn index.new (D.state disk.new) }
     ensures reads { OnlyReads index.old.file index.new.file (D.state disk.old) (D.state disk.new) }
     ensures rest { index.new ≡ record index.old { file = index.new.file } }
@@ -83,7 +83,7 @@ fn search<M: Metric, D: Disk>(
 }
 
 // Returns whether the verifier accepts a log by the live tree of a file of version 2.
-// Clauses: what is asked of the caller (`some`, `narrow`, `pages`, `lawful`); the answer (`sound`); what stays (`same`); the cause of an
+// Clauses: what is asked of the caller (`some`, `narrow`, `pages`, `valid`); the answer (`sound`); what stays (`same`); the cause of an
 // error (`cause`, `passing`); faults of the devices (`later`).
 fn is_accepted<M: Metric, D: Disk>(
     alloc: Global,
@@ -96,10 +96,10 @@ fn is_accepted<M: Metric, D: Disk>(
     requires some { 1 ≤ dim }
     requires narrow { dim ≤ 64 }
     requires pages { live.now.pages ≤ 2 ^ 24 }
-    requires lawful { IsLawfulLog log.now }
+    requires valid { IsValidLog log.now }
     ensures same { IsUnchanged (D.state disk.old) (D.state disk.new) }
     ensures later { (D.state disk.old).faults ≤ (D.state disk.new).faults }
-    ensures sound { IfOk result (λ accepted. IsTrue (D.state disk.old).tells →
+    ensures sound { IfOk result (λ accepted. IsTrue (D.state disk.old).is_known →
         IsSoundLog (M.space metric) (nodes_of (reading dim live.now.pages (D.state disk.old).bytes)) live.now log.now →
         accepted ≡ true) }
     ensures cause { IfErr result (HasAskCause ⊥ (D.state disk.old) (D.state disk.new)) }
@@ -127,7 +127,7 @@ fn ask<M: Metric, D: Disk>(
 ) -> Result<Asked, PageFault>
     requires going { index.old.stopped ≡ false }
     requires stands { MayGoOn index.old (D.state disk.old) }
-    requires point { IsTrue ((M.space index.old.file.metric).fits q.now) }
+    requires point { IsTrue ((M.space index.old.file.metric).is_point q.now) }
     ensures stands { MayGoOn index.new (D.state disk.new) }
     ensures reads { OnlyReads index.old.file index.new.file (D.state disk.old) (D.state disk.new) }
     ensures rest { index.new ≡ record index.old { file = index.new.file } }
@@ -137,7 +137,7 @@ fn ask<M: Metric, D: Disk>(
     ensures cause { IfErr result (HasAskCause (IsSoundOn (M.space index.old.file.metric) index.old.file (D.state disk.old))
         (D.state disk.old) (D.state disk.new)) }
 {
-    index.is_lawful();
+    index.is_valid();
     least_logs_are_sound();
     let found = match search(alloc, index, disk, q, t) {
         Ok(found) => found,
@@ -160,8 +160,8 @@ fn ask<M: Metric, D: Disk>(
 
 /// Runs eight queries at points of the rows, and has the log of each checked against the file. Query `t`, counted from 0, is at the
 /// point of row `t * n / 8` of n rows. It asks for the 10 nearest objects where `t` is even, otherwise for all objects within 1000.
-/// Clauses: what is asked of the caller (`going`, `stands`, `some`, `few`, `fits`); the answer (`tallied`); what stays (`stands`, `reads`,
-/// `rest`); the cause of an error (`cause`).
+/// Clauses: what is asked of the caller (`going`, `stands`, `some`, `few`, `is_point`); the answer (`tallied`); what stays (`stands`,
+/// `reads`, `rest`); the cause of an error (`cause`).
 pub fn ask_all<M: Metric, D: Disk>(
     alloc: Global,
     index: &mut Index<M>,
@@ -172,7 +172,7 @@ pub fn ask_all<M: Metric, D: Disk>(
     requires stands { MayGoOn index.old (D.state disk.old) }
     requires some { 0 < length rows.now.points }
     requires few { length rows.now.points ≤ 2 ^ 24 }
-    requires fits { All (λ p. IsTrue ((M.space index.old.file.metric).fits p)) rows.now.points }
+    requires is_point { All (λ p. IsTrue ((M.space index.old.file.metric).is_point p)) rows.now.points }
     ensures stands { MayGoOn index.new (D.state disk.new) }
     ensures reads { OnlyReads index.old.file index.new.file (D.state disk.old) (D.state disk.new) }
     ensures rest { index.new ≡ record index.old { file = index.new.file } }

@@ -70,11 +70,11 @@ pub fn collect<P: Pages>(
 ) -> Result<Vec<LeafEntry>, PageFault>
     ensures same { HoldsSame (P.shelf pages.old) (P.shelf pages.new) }
     ensures keeps { P.keeps pages.old pages.new }
-    ensures found { IfOk result (λ found. IsTrue (P.shelf pages.old).tells → (s : Space) →
+    ensures found { IfOk result (λ found. IsTrue (P.shelf pages.old).is_known → (s : Space) →
         IsSoundTree s (nodes_of (P.shelf pages.old).read) live.now →
         found.items ≡ objects (nodes_of (P.shelf pages.old).read) live.now) }
     ensures disk { IfErr result (λ fault. fault ≡ PageFault.Disk → Rose (P.shelf pages.old).faults (P.shelf pages.new).faults) }
-    ensures sound { IfErr result (λ fault. IsTrue (P.shelf pages.old).tells → (s : Space) →
+    ensures sound { IfErr result (λ fault. IsTrue (P.shelf pages.old).is_known → (s : Space) →
         IsSoundTree s (nodes_of (P.shelf pages.old).read) live.now → IsPassing fault) }
 {
     let mut found = Vec::new(alloc);

@@ -2,7 +2,7 @@
 ghost use Rattle.std.specs.Prelude.{◌≡◌, ◌≤◌, ◌<◌, false, length, All, IsTrue, IfOk, IfErr, OnOk};
 ghost use Rattle.disk_model.specs.Disk.{EachImage, LeavesOnly};
 ghost use Rattle.metric_mix.specs.MixKinds.{mix_kind, mix_dim};
-ghost use Rattle.node_page.specs.Heads.{IsLawfulHead};
+ghost use Rattle.node_page.specs.Heads.{IsValidHead};
 ghost use Rattle.shadow_root.specs.Making.{IsMade, first_live};
 ghost use Rattle.index_core.specs.Index.{MayGoOn};
 ghost use Rattle.job_files.specs.Spaces.{space_of};
@@ -89,8 +89,8 @@ fn is_of<M: Metric>(index: &Index<M>, head: &Head, live: &Live) -> bool
 /// any. `crew` does the work, with `workers` workers, 1 to 64. At every moment a crash leaves the file with no object or with all of
 /// them. `Unopened`, `Changed` and `Damaged` come only on a disk that does not tell its bytes, where the bytes are not those that
 /// were written. `Disk` (and `Unopened` with it) comes only where the disk failed.
-/// Clauses: what is asked of the caller (`ready`, `lawful`, `some`, `many`, `first`, `made`, `only`, `fits`, `few`, `tags`); the answer
-/// (`filled`, `going`, `stands`, `head`, `kind`, `dim`); what a crash may leave (`moments`); what stays (`tells`); the cause of an error
+/// Clauses: what is asked of the caller (`ready`, `valid`, `some`, `many`, `first`, `made`, `only`, `is_point`, `few`, `tags`); the answer
+/// (`filled`, `going`, `stands`, `head`, `kind`, `dim`); what a crash may leave (`moments`); what stays (`is_known`); the cause of an error
 /// (`cause`); faults of the devices (`later`, `no_fault`).
 /// Arguments: `crew` and `workers` do the work, `disk`, `head` and `live` are the file that was just made, and `objects` goes into it.
 pub fn fill<W: Crew<MixSpace>, D: Disk>(
@@ -103,26 +103,26 @@ pub fn fill<W: Crew<MixSpace>, D: Disk>(
     objects: &Objects,
 ) -> Result<Index<MixSpace>, FillFault>
     requires ready { W.ready crew.now }
-    requires lawful { IsLawfulHead head.now }
+    requires valid { IsValidHead head.now }
     requires some { 1 ≤ workers }
     requires many { workers ≤ 64 }
     requires first { live.now ≡ first_live }
-    requires made { IsTrue (D.state disk.old).tells → IsMade head.now (D.state disk.old).bytes }
+    requires made { IsTrue (D.state disk.old).is_known → IsMade head.now (D.state disk.old).bytes }
     requires only { LeavesOnly (D.state disk.old) (D.state disk.old).bytes }
-    requires fits { All (λ p. IsTrue ((space_of head.now).fits p)) objects.now.rows.points }
+    requires is_point { All (λ p. IsTrue ((space_of head.now).is_point p)) objects.now.rows.points }
     requires few { length objects.now.rows.points ≤ head.now.limit }
     requires tags { length objects.now.tags.items ≡ length objects.now.rows.points }
-    ensures filled { IsTrue (D.state disk.old).tells →
+    ensures filled { IsTrue (D.state disk.old).is_known →
         IfOk result (IsFilled head.now objects.now.rows.points objects.now.tags.items (D.state disk.new)) }
     ensures going { IfOk result (λ index. index.stopped ≡ false) }
     ensures stands { IfOk result (λ index. MayGoOn index (D.state disk.new)) }
     ensures head { IfOk result (λ index. index.file.head ≡ head.now) }
     ensures kind { IfOk result (λ index. mix_kind index.file.metric ≡ head.now.kind) }
     ensures dim { IfOk result (λ index. mix_dim index.file.metric ≡ head.now.dim) }
-    ensures moments { IsTrue (D.state disk.old).tells →
+    ensures moments { IsTrue (D.state disk.old).is_known →
         EachImage (D.state disk.old) (D.state disk.new) (HoldsNoneOrAll head.now objects.now.rows.points objects.now.tags.items) }
     ensures cause { IfErr result (HasFillCause (D.state disk.old) (D.state disk.new)) }
-    ensures tells { (D.state disk.new).tells ≡ (D.state disk.old).tells }
+    ensures is_known { (D.state disk.new).is_known ≡ (D.state disk.old).is_known }
     ensures later { (D.state disk.old).faults ≤ (D.state disk.new).faults }
     ensures no_fault { OnOk result ((D.state disk.new).faults ≡ (D.state disk.old).faults) }
 {

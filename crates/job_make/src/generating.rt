@@ -3,7 +3,7 @@ ghost use Rattle.std.specs.Prelude.{◌≡◌, ◌≢◌, ◌⊎◌, ◌++◌, �
 ghost use Rattle.std.specs.List.{range_with_len};
 ghost use Rattle.outside_io.specs.Causes.{Rose};
 ghost use Rattle.metric_mix.specs.MixKinds.{mix_kind, mix_dim};
-ghost use Rattle.node_page.specs.Heads.{IsLawfulHead};
+ghost use Rattle.node_page.specs.Heads.{IsValidHead};
 ghost use Rattle.rows_text.specs.Texts.{counted};
 ghost use Rattle.tree_outline.specs.Shapes.{tree_lines};
 ghost use Rattle.index_core.specs.Answers.{IsSoundOn, points_on};
@@ -53,9 +53,9 @@ fn end_unfilled<K: Sink>(alloc: Global, fault: FillFault, out: &mut K) -> Status
 /// Makes an index with this head in an empty file, and fills it with these objects. Otherwise it writes why not, and returns the
 /// status: 5 where the disk failed; 6 where the file holds something, which stays as it is; 8 where memory ran out; 9 where a page
 /// is damaged, which comes only on a disk that does not tell its bytes.
-/// Clauses: what is asked of the caller (`ready`, `lawful`, `version`, `some`, `many`, `fits`, `few`, `tags`); when it succeeds (`empty`);
-/// the answer (`filled`, `going`, `stands`, `head`, `kind`, `dim`); what a crash may leave (`since`); what stays (`silent`, `tells`); which
-/// statuses come (`statuses`); the cause of an error (`unfilled`); faults of the devices (`later`, `out_later`).
+/// Clauses: what is asked of the caller (`ready`, `valid`, `version`, `some`, `many`, `is_point`, `few`, `tags`); when it succeeds
+/// (`empty`); the answer (`filled`, `going`, `stands`, `head`, `kind`, `dim`); what a crash may leave (`since`); what stays (`silent`,
+/// `is_known`); which statuses come (`statuses`); the cause of an error (`unfilled`); faults of the devices (`later`, `out_later`).
 /// Arguments: `crew` and `workers` do the work, `disk` and `head` are the file to be made, `objects` goes into it, and `out` gets the line
 /// on a refusal.
 pub fn make_filled<W: Crew<MixSpace>, D: Disk, K: Sink>(
@@ -68,17 +68,17 @@ pub fn make_filled<W: Crew<MixSpace>, D: Disk, K: Sink>(
     out: &mut K,
 ) -> Result<Index<MixSpace>, Status>
     requires ready { W.ready crew.now }
-    requires lawful { IsLawfulHead head.now }
+    requires valid { IsValidHead head.now }
     requires version { head.now.version ≡ 2 }
     requires some { 1 ≤ workers }
     requires many { workers ≤ 64 }
-    requires fits { All (λ p. IsTrue ((space_of head.now).fits p)) objects.now.rows.points }
+    requires is_point { All (λ p. IsTrue ((space_of head.now).is_point p)) objects.now.rows.points }
     requires few { length objects.now.rows.points ≤ head.now.limit }
     requires tags { length objects.now.tags.items ≡ length objects.now.rows.points }
-    ensures empty { OnOk result (IsTrue (D.state disk.old).tells → length (D.state disk.old).bytes ≡ 0) }
-    ensures filled { IfOk result (λ index. IsTrue (D.state disk.old).tells →
+    ensures empty { OnOk result (IsTrue (D.state disk.old).is_known → length (D.state disk.old).bytes ≡ 0) }
+    ensures filled { IfOk result (λ index. IsTrue (D.state disk.old).is_known →
         IsFilled head.now objects.now.rows.points objects.now.tags.items (D.state disk.new) index) }
-    ensures since { OnOk result (IsTrue (D.state disk.old).tells →
+    ensures since { OnOk result (IsTrue (D.state disk.old).is_known →
         IsFilledSince head.now objects.now.rows.points objects.now.tags.items (D.state disk.new)) }
     ensures going { IfOk result (λ index. index.stopped ≡ false) }
     ensures stands { IfOk result (λ index. MayGoOn index (D.state disk.new)) }
@@ -90,7 +90,7 @@ pub fn make_filled<W: Crew<MixSpace>, D: Disk, K: Sink>(
         IsUnfilled head.now objects.now.rows.points objects.now.tags.items (D.state disk.old) (D.state disk.new) (K.state out.old)
         (K.state out.new) status.0) }
     ensures statuses { IfErr result (λ status. (status.0 ≡ 5) ⊎ ((status.0 ≡ 6) ⊎ ((status.0 ≡ 8) ⊎ (status.0 ≡ 9)))) }
-    ensures tells { (D.state disk.new).tells ≡ (D.state disk.old).tells }
+    ensures is_known { (D.state disk.new).is_known ≡ (D.state disk.old).is_known }
     ensures later { (D.state disk.old).faults ≤ (D.state disk.new).faults }
     ensures out_later { (K.state out.old).faults ≤ (K.state out.new).faults }
 {
@@ -138,7 +138,7 @@ fn summary_of<M: Metric, D: Disk>(
     requires stands { MayGoOn index.old (D.state disk.old) }
     requires some { 0 < length rows.now.points }
     requires few { length rows.now.points ≤ 2 ^ 24 }
-    requires fits { All (λ p. IsTrue ((M.space index.old.file.metric).fits p)) rows.now.points }
+    requires is_point { All (λ p. IsTrue ((M.space index.old.file.metric).is_point p)) rows.now.points }
     ensures reads { OnlyReads index.old.file index.new.file (D.state disk.old) (D.state disk.new) }
     ensures text { IsSoundOn (M.space index.old.file.metric) index.old.file (D.state disk.old) →
         points_on index.old.file (D.state disk.old) ≡ rows.now.points →
@@ -187,7 +187,7 @@ fn ids(alloc: Global, count: u32) -> Result<Vec<u64>, Memory>
 // Returns the generated rows as objects. The tag of each row is its number.
 fn generated_objects(alloc: Global, asked: &Generation) -> Result<Objects, Memory>
     ensures rows { IfOk result (λ o.
-        o.rows ≡ record { words = asked.now.head.dim; points = generated_rows asked.now.seed asked.now.head.dim asked.now.count }) }
+        o.rows ≡ record { dimension = asked.now.head.dim; points = generated_rows asked.now.seed asked.now.head.dim asked.now.count }) }
     ensures tags { IfOk result (λ o. o.tags.items ≡ range_with_len 0 asked.now.count) }
 {
     let rows = generated_rows(alloc, asked.seed, asked.head.dim, asked.count)?;
@@ -199,7 +199,7 @@ fn generated_objects(alloc: Global, asked: &Generation) -> Result<Objects, Memor
 /// the number of objects, the number of nodes, the tree's height, and the results of the queries. Status 4: the lines could not be
 /// written; 5: the disk failed; 6: the file holds something, and stays as it is; 8: memory ran out; 9: a page is damaged, which
 /// comes only on a disk that does not tell its bytes.
-/// Clauses: what is asked of the caller (`ready`, `lawful`, `version`, `vectors`, `some`, `few`, `one_worker`, `many_workers`); what the
+/// Clauses: what is asked of the caller (`ready`, `valid`, `version`, `vectors`, `some`, `few`, `one_worker`, `many_workers`); what the
 /// job does, and what a crash may leave (`generates`); which statuses come (`statuses`); the cause of an error (`rose`); faults of the
 /// devices (`later`).
 pub fn generate_index<W: Crew<MixSpace>, D: Disk, K: Sink>(
@@ -210,7 +210,7 @@ pub fn generate_index<W: Crew<MixSpace>, D: Disk, K: Sink>(
     out: &mut K,
 ) -> Status
     requires ready { W.ready crew.now }
-    requires lawful { IsLawfulHead asked.now.head }
+    requires valid { IsValidHead asked.now.head }
     requires version { asked.now.head.version ≡ 2 }
     requires vectors { (asked.now.head.kind ≢ 4) × (asked.now.head.kind ≢ 5) }
     requires some { 1 ≤ asked.now.count }

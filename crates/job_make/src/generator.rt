@@ -32,7 +32,7 @@ fn fill_row(seed: u32, dim: u8, i: u32, row: &mut Vec<u32>) -> Result<(), Memory
 #[tactic(auto, using(crate::proofs::RowsMore::row_more))]
 pub fn generated_rows(alloc: Global, seed: u32, dim: u8, count: u32) -> Result<Rows, Memory>
     ensures points { IfOk result (λ rows. rows.points ≡ generated_rows seed dim count) }
-    ensures words { IfOk result (λ rows. rows.words ≡ dim) }
+    ensures dimension { IfOk result (λ rows. rows.dimension ≡ dim) }
 {
     let mut rows = Rows::new(alloc, usize::from(dim));
     let mut row = Vec::new(alloc);

@@ -3,7 +3,7 @@ ghost use Rattle.std.specs.Prelude.{◌≡◌, ◌⊎◌, ◌≤◌, ◌^◌, le
 ghost use Rattle.outside_io.specs.Causes.{Rose};
 ghost use Rattle.disk_model.specs.Disk.{IsUnchanged};
 ghost use Rattle.tree_shape.specs.Tree.{IsSoundTree, points_by_id, tags_by_id};
-ghost use Rattle.node_page.specs.Heads.{IsLawfulHead};
+ghost use Rattle.node_page.specs.Heads.{IsValidHead};
 ghost use Rattle.node_page.specs.Opening.{OpensTo};
 ghost use Rattle.std.specs.Io.KnownBytes.{Appends};
 ghost use Rattle.outside_io.specs.Bytes.{AppendsPrefix};
@@ -40,7 +40,7 @@ use tree_shape::Live;
 fn want_empty<D: Disk, K: Sink>(disk: &mut D, out: &mut K) -> Result<(), Status>
     ensures same { IsUnchanged (D.state disk.old) (D.state disk.new) }
     ensures reads { (D.state disk.new).reads ≡ (D.state disk.old).reads }
-    ensures empty { OnOk result (IsTrue (D.state disk.old).tells → length (D.state disk.old).bytes ≡ 0) }
+    ensures empty { OnOk result (IsTrue (D.state disk.old).is_known → length (D.state disk.old).bytes ≡ 0) }
     ensures silent { OnOk result (out.new ≡ out.old) }
     ensures refuses { IfErr result (λ status. RefusesNew (D.state disk.old) (D.state disk.new)
         (K.state out.old) (K.state out.new) status.0) }
@@ -59,9 +59,9 @@ fn want_empty<D: Disk, K: Sink>(disk: &mut D, out: &mut K) -> Result<(), Status>
 // cause of an error (`refuses`); faults of the devices (`later`, `out_later`).
 fn open_old<D: Disk, K: Sink>(disk: &mut D, out: &mut K) -> Result<(Head, Live), Status>
     ensures same { IsUnchanged (D.state disk.old) (D.state disk.new) }
-    ensures opens { IfOk result (λ opened. IsTrue (D.state disk.old).tells → OpensTo (D.state disk.old).bytes opened.0 opened.1) }
+    ensures opens { IfOk result (λ opened. IsTrue (D.state disk.old).is_known → OpensTo (D.state disk.old).bytes opened.0 opened.1) }
     ensures version { IfOk result (λ opened. opened.0.version ≡ 1) }
-    ensures head { IfOk result (λ opened. IsLawfulHead opened.0) }
+    ensures head { IfOk result (λ opened. IsValidHead opened.0) }
     ensures pages { IfOk result (λ opened. opened.1.pages ≤ 2 ^ 24) }
     ensures count { IfOk result (λ opened. opened.1.count ≤ opened.0.limit) }
     ensures silent { OnOk result (out.new ≡ out.old) }
@@ -83,8 +83,8 @@ fn open_old<D: Disk, K: Sink>(disk: &mut D, out: &mut K) -> Result<(Head, Live),
 }
 
 // Audits a live tree over points of `dim` coordinates, and returns its objects.
-// Clauses: what is asked of the caller (`some`, `few`, `dim`, `words`, `pages`, `within`); the answer (`fits`, `count`, `tag_count`,
-// `sound`, `points`, `tags`); what stays (`same`, `keeps`); the cause of an error (`fault`).
+// Clauses: what is asked of the caller (`some`, `few`, `dim`, `dimension`, `pages`, `within`); the answer (`is_point`, `count`,
+// `tag_count`, `sound`, `points`, `tags`); what stays (`same`, `keeps`); the cause of an error (`fault`).
 fn audited<P: Pages, M: Metric>(
     alloc: Global,
     pages: &mut P,
@@ -95,21 +95,21 @@ fn audited<P: Pages, M: Metric>(
     requires some { 1 ≤ dim }
     requires few { dim ≤ 64 }
     requires dim { (P.shelf pages.old).dim ≡ dim }
-    requires words { (M.space metric).words ≡ dim }
+    requires dimension { (M.space metric).dimension ≡ dim }
     requires pages { live.now.pages ≡ (P.shelf pages.old).pages }
     requires within { HasNodesWithin (P.shelf pages.old).read live.now.pages }
     ensures same { HoldsSame (P.shelf pages.old) (P.shelf pages.new) }
     ensures keeps { P.keeps pages.old pages.new }
-    ensures fits { IfOk result (λ o. All (λ p. IsTrue ((M.space metric).fits p)) o.rows.points) }
+    ensures is_point { IfOk result (λ o. All (λ p. IsTrue ((M.space metric).is_point p)) o.rows.points) }
     ensures count { IfOk result (λ o. length o.rows.points ≡ live.now.count) }
     ensures tag_count { IfOk result (λ o. length o.tags.items ≡ length o.rows.points) }
-    ensures sound { OnOk result (IsTrue (P.shelf pages.old).tells →
+    ensures sound { OnOk result (IsTrue (P.shelf pages.old).is_known →
         IsSoundTree (M.space metric) (nodes_of (P.shelf pages.old).read) live.now) }
-    ensures points { IfOk result (λ o. IsTrue (P.shelf pages.old).tells →
+    ensures points { IfOk result (λ o. IsTrue (P.shelf pages.old).is_known →
         o.rows.points ≡ points_by_id (nodes_of (P.shelf pages.old).read) live.now) }
-    ensures tags { IfOk result (λ o. IsTrue (P.shelf pages.old).tells →
+    ensures tags { IfOk result (λ o. IsTrue (P.shelf pages.old).is_known →
         o.tags.items ≡ tags_by_id (nodes_of (P.shelf pages.old).read) live.now) }
-    ensures fault { IfErr result (HasOldFault (P.shelf pages.old).tells (P.shelf pages.old).faults (P.shelf pages.new).faults
+    ensures fault { IfErr result (HasOldFault (P.shelf pages.old).is_known (P.shelf pages.old).faults (P.shelf pages.new).faults
         (audit_fault (M.space metric) (P.shelf pages.old).read live.now)) }
 {
     audit_faults_are_unsoundness();
@@ -119,27 +119,27 @@ fn audited<P: Pages, M: Metric>(
 }
 
 // Audits the live tree of an opened file of version 1, and returns its objects.
-// Clauses: what is asked of the caller (`head`, `pages`); the answer (`fits`, `count`, `tag_count`, `sound`, `points`, `tags`); what stays
-// (`same`); the cause of an error (`fault`); faults of the devices (`later`).
+// Clauses: what is asked of the caller (`head`, `pages`); the answer (`is_point`, `count`, `tag_count`, `sound`, `points`, `tags`); what
+// stays (`same`); the cause of an error (`fault`); faults of the devices (`later`).
 fn audited_objects<D: Disk>(
     alloc: Global,
     disk: &mut D,
     head: &Head,
     live: &Live,
 ) -> Result<Objects, AuditFault>
-    requires head { IsLawfulHead head.now }
+    requires head { IsValidHead head.now }
     requires pages { live.now.pages ≤ 2 ^ 24 }
     ensures same { IsUnchanged (D.state disk.old) (D.state disk.new) }
-    ensures fits { IfOk result (λ o. All (λ p. IsTrue ((space_of head.now).fits p)) o.rows.points) }
+    ensures is_point { IfOk result (λ o. All (λ p. IsTrue ((space_of head.now).is_point p)) o.rows.points) }
     ensures count { IfOk result (λ o. length o.rows.points ≡ live.now.count) }
     ensures tag_count { IfOk result (λ o. length o.tags.items ≡ length o.rows.points) }
-    ensures sound { OnOk result (IsTrue (D.state disk.old).tells →
+    ensures sound { OnOk result (IsTrue (D.state disk.old).is_known →
         IsSoundTree (space_of head.now) (old_nodes head.now live.now (D.state disk.old).bytes) live.now) }
-    ensures points { IfOk result (λ o. IsTrue (D.state disk.old).tells →
+    ensures points { IfOk result (λ o. IsTrue (D.state disk.old).is_known →
         o.rows.points ≡ points_by_id (old_nodes head.now live.now (D.state disk.old).bytes) live.now) }
-    ensures tags { IfOk result (λ o. IsTrue (D.state disk.old).tells →
+    ensures tags { IfOk result (λ o. IsTrue (D.state disk.old).is_known →
         o.tags.items ≡ tags_by_id (old_nodes head.now live.now (D.state disk.old).bytes) live.now) }
-    ensures fault { IfErr result (HasOldFault (D.state disk.old).tells (D.state disk.old).faults (D.state disk.new).faults
+    ensures fault { IfErr result (HasOldFault (D.state disk.old).is_known (D.state disk.old).faults (D.state disk.new).faults
         (old_fault head.now live.now (D.state disk.old).bytes)) }
     ensures later { (D.state disk.old).faults ≤ (D.state disk.new).faults }
 {
@@ -148,18 +148,18 @@ fn audited_objects<D: Disk>(
 }
 
 // Returns the head and the objects of a sound file of version 1. Otherwise it writes why the file is none, and returns the status.
-// Clauses: the answer (`is`, `head`, `fits`, `few`, `tag_count`); what stays (`same`, `silent`); the cause of an error (`refuses`, `rose`);
-// faults of the devices (`later`, `out_later`).
+// Clauses: the answer (`is`, `head`, `is_point`, `few`, `tag_count`); what stays (`same`, `silent`); the cause of an error (`refuses`,
+// `rose`); faults of the devices (`later`, `out_later`).
 fn read_old<D: Disk, K: Sink>(
     alloc: Global,
     disk: &mut D,
     out: &mut K,
 ) -> Result<(Head, Objects), Status>
     ensures same { IsUnchanged (D.state disk.old) (D.state disk.new) }
-    ensures is { IfOk result (λ old. IsTrue (D.state disk.old).tells →
+    ensures is { IfOk result (λ old. IsTrue (D.state disk.old).is_known →
         IsOldFile old.0 old.1.rows.points old.1.tags.items (D.state disk.old).bytes) }
-    ensures head { IfOk result (λ old. IsLawfulHead old.0) }
-    ensures fits { IfOk result (λ old. All (λ p. IsTrue ((space_of old.0).fits p)) old.1.rows.points) }
+    ensures head { IfOk result (λ old. IsValidHead old.0) }
+    ensures is_point { IfOk result (λ old. All (λ p. IsTrue ((space_of old.0).is_point p)) old.1.rows.points) }
     ensures few { IfOk result (λ old. length old.1.rows.points ≤ old.0.limit) }
     ensures tag_count { IfOk result (λ old. length old.1.tags.items ≡ length old.1.rows.points) }
     ensures silent { OnOk result (out.new ≡ out.old) }
@@ -178,9 +178,9 @@ fn read_old<D: Disk, K: Sink>(
 
 // Returns the same head with version 2.
 fn renewed(head: &Head) -> Head
-    requires { IsLawfulHead head.now }
+    requires { IsValidHead head.now }
     ensures head { result ≡ renewed head.now }
-    ensures lawful { IsLawfulHead result }
+    ensures valid { IsValidHead result }
 {
     Head {
         version: 2,
@@ -212,8 +212,8 @@ fn move_objects<D: Disk, K: Sink>(
     objects: &Objects,
     out: &mut K,
 ) -> Status
-    requires lawful { IsLawfulHead head.now }
-    requires fits { All (λ p. IsTrue ((space_of head.now).fits p)) objects.now.rows.points }
+    requires valid { IsValidHead head.now }
+    requires is_point { All (λ p. IsTrue ((space_of head.now).is_point p)) objects.now.rows.points }
     requires few { length objects.now.rows.points ≤ head.now.limit }
     requires tags { length objects.now.tags.items ≡ length objects.now.rows.points }
     ensures fills { Fills (renewed head.now) objects.now.rows.points objects.now.tags.items

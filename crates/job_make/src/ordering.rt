@@ -28,15 +28,15 @@ fn rejection(fault: PageFault) -> AuditFault
 
 // Returns whether an object has the id `id` and a point of the space.
 fn is_next<M: Metric>(metric: &M, entry: &LeafEntry, id: usize) -> bool
-    ensures yes { IsTrue result → (entry.now.id ≡ id) × IsTrue ((M.space metric.now).fits entry.now.point) }
-    ensures no { entry.now.id ≡ id → IsTrue ((M.space metric.now).fits entry.now.point) → IsTrue result }
+    ensures yes { IsTrue result → (entry.now.id ≡ id) × IsTrue ((M.space metric.now).is_point entry.now.point) }
+    ensures no { entry.now.id ≡ id → IsTrue ((M.space metric.now).is_point entry.now.point) → IsTrue result }
 {
-    entry.id as usize == id && metric.fits(entry.point.as_slice())
+    entry.id as usize == id && metric.is_point(entry.point.as_slice())
 }
 
 // Appends an object. After an `Err` the objects may be anything.
 fn put_last(objects: &mut Objects, entry: &LeafEntry) -> Result<(), Memory>
-    requires { length entry.now.point ≡ objects.old.rows.words }
+    requires { length entry.now.point ≡ objects.old.rows.dimension }
     ensures rows { OnOk result (objects.new.rows ≡ record objects.old.rows { points = objects.old.rows.points ++ entry.now.point ∷ [] }) }
     ensures tags { OnOk result (objects.new.tags.items ≡ objects.old.tags.items ++ entry.now.tag ∷ []) }
 {
@@ -54,13 +54,13 @@ fn take_in_order<M: Metric>(
     ensures points { IfOk result (λ o. o.rows.points ≡ map (λ e. e.point) entries.now) }
     ensures tags { IfOk result (λ o. o.tags.items ≡ map (λ e. e.tag) entries.now) }
     ensures numbered { OnOk result (AreNumbered 0 entries.now) }
-    ensures fits { OnOk result (AreInSpace (M.space metric) entries.now) }
+    ensures is_point { OnOk result (AreInSpace (M.space metric) entries.now) }
     ensures kind { IfErr result (λ fault. (fault ≡ AuditFault.Memory) ⊎ ((id : ℕ) × (fault ≡ AuditFault.Id id))) }
     ensures cause { IfErr result (λ fault. AreNumbered 0 entries.now → AreInSpace (M.space metric) entries.now →
         fault ≡ AuditFault.Memory) }
 {
     let mut objects = Objects {
-        rows: Rows::new(alloc, metric.words()),
+        rows: Rows::new(alloc, metric.dimension()),
         tags: Vec::new(alloc),
     };
     for (id, entry) in entries.iter().enumerate() {
@@ -85,17 +85,17 @@ pub fn objects_of<P: Pages, M: Metric>(
 ) -> Result<Objects, AuditFault>
     ensures same { HoldsSame (P.shelf pages.old) (P.shelf pages.new) }
     ensures keeps { P.keeps pages.old pages.new }
-    ensures fits { IfOk result (λ o. All (λ p. IsTrue ((M.space metric).fits p)) o.rows.points) }
+    ensures is_point { IfOk result (λ o. All (λ p. IsTrue ((M.space metric).is_point p)) o.rows.points) }
     ensures count { IfOk result (λ o. length o.rows.points ≡ live.now.count) }
     ensures tag_count { IfOk result (λ o. length o.tags.items ≡ length o.rows.points) }
-    ensures points { IfOk result (λ o. IsTrue (P.shelf pages.old).tells →
+    ensures points { IfOk result (λ o. IsTrue (P.shelf pages.old).is_known →
         IsSoundTree (M.space metric) (nodes_of (P.shelf pages.old).read) live.now →
         o.rows.points ≡ points_by_id (nodes_of (P.shelf pages.old).read) live.now) }
-    ensures tags { IfOk result (λ o. IsTrue (P.shelf pages.old).tells →
+    ensures tags { IfOk result (λ o. IsTrue (P.shelf pages.old).is_known →
         IsSoundTree (M.space metric) (nodes_of (P.shelf pages.old).read) live.now →
         o.tags.items ≡ tags_by_id (nodes_of (P.shelf pages.old).read) live.now) }
     ensures cause { IfErr result (HasTakingCause
-        (IsTrue (P.shelf pages.old).tells × IsSoundTree (M.space metric) (nodes_of (P.shelf pages.old).read) live.now)
+        (IsTrue (P.shelf pages.old).is_known × IsSoundTree (M.space metric) (nodes_of (P.shelf pages.old).read) live.now)
         (P.shelf pages.old).faults (P.shelf pages.new).faults) }
 {
     objects_fit();

@@ -3,7 +3,7 @@ ghost use Rattle.std.specs.Io.KnownBytes.{IsAtEnd};
 ghost use Rattle.outside_io.specs.Bytes.{TakesUpTo};
 ghost use Rattle.outside_io.specs.Causes.{Rose};
 ghost use Rattle.metric_mix.specs.MixKinds.{mix_kind, mix_dim};
-ghost use Rattle.job_words.specs.Lawful.{IsLawfulSpace, IsLimit};
+ghost use Rattle.job_words.specs.Valid.{IsValidSpace, IsLimit};
 ghost use Rattle.job_words.specs.Names.{kind_of};
 ghost use Rattle.metric_mix.specs.MixSpaces.{mix_space};
 ghost use Rattle.plain_scan.specs.Written.{reply_texts};
@@ -20,7 +20,7 @@ use std::alloc::Global;
 
 // Returns the space with the name `name`.
 fn space_of(name: SpaceName) -> MixSpace
-    requires { IsLawfulSpace name }
+    requires { IsValidSpace name }
     ensures kind { mix_kind result ≡ kind_of name.metric }
     ensures dim { mix_dim result ≡ name.dim }
 {
@@ -74,7 +74,7 @@ pub fn run_scan<S: Source, K: Sink>(
     input: &mut S,
     out: &mut K,
 ) -> Status
-    requires space { IsLawfulSpace space }
+    requires space { IsValidSpace space }
     requires limit { IsLimit limit }
     // The replies are those of the plain list. What follows them is what the status says.
     ensures wrote { IfSome (S.left input.old) (λ bytes. WritesScan (K.state out.old) (K.state out.new)

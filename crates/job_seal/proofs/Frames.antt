@@ -47,7 +47,7 @@ joined g fs f = ap (λ (bs : List ℕ). flat_map g fs ++ bs) (sym (append-nil (g
 -- one more was shown
 pub one_more : (root body : List ℕ) (left0 left1 left2 : Option (List ℕ)) (room frame : ℕ) (accepted b : Bool) (w0 w1 w2 : Option (List ℕ)) → Progress root left0 left1 room frame accepted w0 w1 → Consumes left1 left2 (frame_bytes body)
     → length (frame_bytes body) ≤ room → PutsFrame root frame body b w1 w2 → Progress root left0 left2 (room - length (frame_bytes body)) (frame + 1) (accepted && b) w0 w2
-one_more root body left0 left1 left2 room frame accepted b w0 w1 w2 p took fits puts =
+one_more root body left0 left1 left2 room frame accepted b w0 w1 w2 p took is_point puts =
     let f : Shown = record { body = body; text = puts.0; accepted = b } in
     let all = p.shown ++ (f ∷ []) in
     let size : length (flat_map (λ (s : Shown). frame_bytes s.body) all) ≡ length (flat_map (λ (s : Shown). frame_bytes s.body) p.shown) + length (frame_bytes body) =
@@ -55,7 +55,7 @@ one_more root body left0 left1 left2 room frame accepted b w0 w1 w2 p took fits 
     record {
       shown = all;
       taken = subst (λ (bs : List ℕ). Consumes left0 left2 bs) (joined (λ (s : Shown). frame_bytes s.body) p.shown f) (Consumes-trans left0 left1 left2 (flat_map (λ (s : Shown). frame_bytes s.body) p.shown) (frame_bytes body) p.taken took);
-      size = (let before = p.size in omega (arith, size, before, fits));
+      size = (let before = p.size in omega (arith, size, before, is_point));
       told = are_shown_more root 0 p.shown f p.told (subst (λ (n : ℕ). IsShown root n f) (p.frame_is ∙ sym (zero-add (length p.shown))) puts.1);
       written = subst (λ (bs : List ℕ). Appends w0 w2 bs) (joined (λ (s : Shown). s.text) p.shown f) (Appends-trans w0 w1 w2 (flat_map (λ (s : Shown). s.text) p.shown) puts.0 p.written puts.2);
       frame_is = ap (λ (n : ℕ). n + 1) p.frame_is ∙ sym (length-append p.shown (f ∷ []));
@@ -72,10 +72,10 @@ shown_before root rest left0 left room frame accepted w0 w1 p = record { shown =
 -- the last line was put
 pub ended : (root rest line : List ℕ) (left0 left1 left2 : Option (List ℕ)) (room frame : ℕ) (accepted : Bool) (status : ℕ) (w0 w1 w2 : Option (List ℕ)) → Progress root left0 left1 room frame accepted w0 w1 → Consumes left1 left2 rest
     → length rest ≤ room → IsAtEnd left2 → IsEnd rest accepted line status → Appends w1 w2 line → HasEnded root left0 left2 w0 w2 status
-ended root rest line left0 left1 left2 room frame accepted status w0 w1 w2 p took fits at_end is put = record {
+ended root rest line left0 left1 left2 room frame accepted status w0 w1 w2 p took is_point at_end is put = record {
   bytes = flat_map (λ (f : Shown). frame_bytes f.body) p.shown ++ rest;
   taken = Consumes-trans left0 left1 left2 (flat_map (λ (f : Shown). frame_bytes f.body) p.shown) rest p.taken took;
-  few = (let size = p.size in omega (arith, length-append (flat_map (λ (f : Shown). frame_bytes f.body) p.shown) rest, size, fits));
+  few = (let size = p.size in omega (arith, length-append (flat_map (λ (f : Shown). frame_bytes f.body) p.shown) rest, size, is_point));
   all = at_end;
   middle = w1;
   before = shown_before root rest left0 left1 room frame accepted w0 w1 p;
@@ -108,8 +108,8 @@ stopped_behind root rest left0 left1 left2 room frame accepted why w0 w1 w2 p to
 -- the last line was not put whole
 pub end_stops : (root rest line : List ℕ) (left0 left1 left2 : Option (List ℕ)) (room frame : ℕ) (accepted : Bool) (status : ℕ) (w0 w1 w2 : Option (List ℕ)) → Progress root left0 left1 room frame accepted w0 w1 → Consumes left1 left2 rest
     → length rest ≤ room → IsAtEnd left2 → IsEnd rest accepted line status → AppendsPrefix w1 w2 line → HasStopped root left0 left2 w0 w2 stop.Sink
-end_stops root rest line left0 left1 left2 room frame accepted status w0 w1 w2 p took fits at_end is put =
-    stopped_behind root rest left0 left1 left2 room frame accepted stop.Sink w0 w1 w2 p took (omega (arith, fits)) ((λ e. cc e), λ more. absurd (omega (arith, more, fits))) (line, inr (at_end, (status, is)), put)
+end_stops root rest line left0 left1 left2 room frame accepted status w0 w1 w2 p took is_point at_end is put =
+    stopped_behind root rest left0 left1 left2 room frame accepted stop.Sink w0 w1 w2 p took (omega (arith, is_point)) ((λ e. cc e), λ more. absurd (omega (arith, more, is_point))) (line, inr (at_end, (status, is)), put)
 
 -- the next one could not be read
 pub reading_stops : (root : List ℕ) (left0 left1 left2 : Option (List ℕ)) (room frame : ℕ) (accepted : Bool) (why : ProofStop) (w0 w1 : Option (List ℕ)) → Progress root left0 left1 room frame accepted w0 w1 → StopsReading room left1 left2 why → HasStopped root left0 left2 w0 w1 why
@@ -127,13 +127,13 @@ reading_stops root left0 left1 left2 room frame accepted stop.Memory w0 w1 p is 
 -- the next one was read and not shown
 pub frame_stops : (root body : List ℕ) (left0 left1 left2 : Option (List ℕ)) (room frame : ℕ) (accepted : Bool) (why : ProofStop) (w0 w1 w2 : Option (List ℕ)) → Progress root left0 left1 room frame accepted w0 w1 → Consumes left1 left2 (frame_bytes body)
     → length (frame_bytes body) ≤ room → StopsFrame root frame body why w1 w2 → HasStopped root left0 left2 w0 w2 why
-frame_stops root body left0 left1 left2 room frame accepted stop.Sink w0 w1 w2 p took fits is =
-    stopped_behind root (frame_bytes body) left0 left1 left2 room frame accepted stop.Sink w0 w1 w2 p took (omega (arith, fits)) ((λ e. cc e), λ more. absurd (omega (arith, more, fits)))
+frame_stops root body left0 left1 left2 room frame accepted stop.Sink w0 w1 w2 p took is_point is =
+    stopped_behind root (frame_bytes body) left0 left1 left2 room frame accepted stop.Sink w0 w1 w2 p took (omega (arith, is_point)) ((λ e. cc e), λ more. absurd (omega (arith, more, is_point)))
     (is.0, inl (body, is.1, refl, is.2), is.3)
-frame_stops root body left0 left1 left2 room frame accepted stop.Memory w0 w1 w2 p took fits is =
-    stopped_behind root (frame_bytes body) left0 left1 left2 room frame accepted stop.Memory w0 w1 w2 p took (omega (arith, fits)) ((λ e. cc e), λ more. absurd (omega (arith, more, fits))) is
-frame_stops root body left0 left1 left2 room frame accepted stop.Input w0 w1 w2 p took fits is = absurd is
-frame_stops root body left0 left1 left2 room frame accepted stop.Long w0 w1 w2 p took fits is = absurd is
+frame_stops root body left0 left1 left2 room frame accepted stop.Memory w0 w1 w2 p took is_point is =
+    stopped_behind root (frame_bytes body) left0 left1 left2 room frame accepted stop.Memory w0 w1 w2 p took (omega (arith, is_point)) ((λ e. cc e), λ more. absurd (omega (arith, more, is_point))) is
+frame_stops root body left0 left1 left2 room frame accepted stop.Input w0 w1 w2 p took is_point is = absurd is
+frame_stops root body left0 left1 left2 room frame accepted stop.Long w0 w1 w2 p took is_point is = absurd is
 
 -- ---- by status
 
@@ -177,8 +177,8 @@ output_stopped root left0 left1 s0 s1 is = record {
   memory_line = λ e. absurd (omega (arith, e));
 }
 
-tells_from : (s0 s1 s2 : SinkState) (middle : Option (List ℕ)) (line : List ℕ) → s1.written ≡ middle → s0.faults ≤ s1.faults → Tells s1 s2 line → Tells (record s0 { written = middle }) s2 line
-tells_from s0 s1 s2 middle line is later told =
+known_from : (s0 s1 s2 : SinkState) (middle : Option (List ℕ)) (line : List ℕ) → s1.written ≡ middle → s0.faults ≤ s1.faults → Tells s1 s2 line → Tells (record s0 { written = middle }) s2 line
+known_from s0 s1 s2 middle line is later told =
     ⊎_elim (λ whole. inl (subst (λ (w : Option (List ℕ)). Appends w s2.written line) is whole))
     (λ cut. inr (subst (λ (w : Option (List ℕ)). AppendsPrefix w s2.written line) is cut.0, (let rose = cut.1 in omega arith))) told
 
@@ -193,7 +193,7 @@ input_stopped root left0 left1 s0 s1 s2 status is later same told = record {
   before = is.before;
   done = λ either. neither status 3 same (omega arith) either;
   output = λ e. other status 3 4 same e (λ n. omega (arith, n));
-  input_line = λ _. (is.after.0, tells_from s0 s1 s2 is.middle (codes "fault input\n") is.after.1 later told);
+  input_line = λ _. (is.after.0, known_from s0 s1 s2 is.middle (codes "fault input\n") is.after.1 later told);
   long_line = λ e. other status 3 7 same e (λ n. omega (arith, n));
   memory_line = λ e. other status 3 8 same e (λ n. omega (arith, n));
 }
@@ -210,7 +210,7 @@ long_stopped root left0 left1 s0 s1 s2 status is later same told = record {
   done = λ either. neither status 7 same (omega arith) either;
   output = λ e. other status 7 4 same e (λ n. omega (arith, n));
   input_line = λ e. other status 7 3 same e (λ n. omega (arith, n));
-  long_line = λ _. (is.after.0, tells_from s0 s1 s2 is.middle (codes "fault long\n") is.after.1 later told);
+  long_line = λ _. (is.after.0, known_from s0 s1 s2 is.middle (codes "fault long\n") is.after.1 later told);
   memory_line = λ e. other status 7 8 same e (λ n. omega (arith, n));
 }
 
@@ -227,5 +227,5 @@ memory_stopped root left0 left1 s0 s1 s2 status is later same told = record {
   output = λ e. other status 8 4 same e (λ n. omega (arith, n));
   input_line = λ e. other status 8 3 same e (λ n. omega (arith, n));
   long_line = λ e. other status 8 7 same e (λ n. omega (arith, n));
-  memory_line = λ _. tells_from s0 s1 s2 is.middle (codes "fault memory\n") is.after later told;
+  memory_line = λ _. known_from s0 s1 s2 is.middle (codes "fault memory\n") is.after later told;
 }

@@ -20,16 +20,16 @@ not_large file head live opens few large =
     let many = large.3 in omega arith
 
 -- a file that was opened, audited and sealed
-pub sealed_before : (d0 d1 d2 : DiskState) (head : Head) (live : Live) (root : List ℕ) → (IsTrue d0.tells → OpensTo d0.bytes head live) → head.version ≡ 2 → live.pages ≤ 262144 → IsUnchanged d0 d1 → IsUnchanged d1 d2
-    → (IsTrue d1.tells → audit_fault (mix_space head.kind head.dim) (reading head.dim live.pages d1.bytes) live ≡ None) → (IsTrue d2.tells → root ≡ root_digest d2.bytes live.pages) → IsTrue d0.tells → IsSealed d0.bytes root
-sealed_before d0 d1 d2 head live root opens version few first second sound is tells = record {
+pub sealed_before : (d0 d1 d2 : DiskState) (head : Head) (live : Live) (root : List ℕ) → (IsTrue d0.is_known → OpensTo d0.bytes head live) → head.version ≡ 2 → live.pages ≤ 262144 → IsUnchanged d0 d1 → IsUnchanged d1 d2
+    → (IsTrue d1.is_known → audit_fault (mix_space head.kind head.dim) (reading head.dim live.pages d1.bytes) live ≡ None) → (IsTrue d2.is_known → root ≡ root_digest d2.bytes live.pages) → IsTrue d0.is_known → IsSealed d0.bytes root
+sealed_before d0 d1 d2 head live root opens version few first second sound is is_known = record {
   head = head;
   live = live;
-  opens = opens tells;
+  opens = opens is_known;
   version = version;
   few = few;
-  sound = subst (λ (b : List ℕ). audit_fault (mix_space head.kind head.dim) (reading head.dim live.pages b) live ≡ None) first.same_bytes (sound (subst IsTrue (sym first.same_tells) tells));
-  root_is = is (subst IsTrue (sym (second.same_tells ∙ first.same_tells)) tells) ∙ ap (λ (b : List ℕ). root_digest b live.pages) (second.same_bytes ∙ first.same_bytes);
+  sound = subst (λ (b : List ℕ). audit_fault (mix_space head.kind head.dim) (reading head.dim live.pages b) live ≡ None) first.same_bytes (sound (subst IsTrue (sym first.same_known) is_known));
+  root_is = is (subst IsTrue (sym (second.same_known ∙ first.same_known)) is_known) ∙ ap (λ (b : List ℕ). root_digest b live.pages) (second.same_bytes ∙ first.same_bytes);
 }
 
 pub neither_of_three : {P : Type 0} (r x y z n : ℕ) → (r ≡ x) ⊎ ((r ≡ y) ⊎ (r ≡ z)) → r ≡ n → n ≢ x → n ≢ y → n ≢ z → P

@@ -58,7 +58,7 @@ one_more file head live logs log rest i accepted b l0 l1 l2 o0 o1 o2 old puts =
 -- no call was made
 pub unchanged : (disk : DiskState) → IsUnchanged disk disk
 unchanged disk = record {
-  same_tells = refl;
+  same_known = refl;
   same_bytes = refl;
   same_images = λ image. (λ left. left, λ left. left);
   time = started disk (MayLeave disk) (λ image left. left);
@@ -66,11 +66,11 @@ unchanged disk = record {
 
 -- by a disk that holds what it held
 pub one_more_by : (d0 d1 : DiskState) (head : Head) (live : Live) (logs : List Log) (log : Log) (rest : List Log) (i : ℕ) (accepted b : Bool) (l0 l1 l2 o0 o1 o2 : Option (List ℕ)) → IsUnchanged d0 d1
-    → (IsTrue d0.tells → HasCarried d0.bytes head live logs (log ∷ rest) i accepted l0 l1 o0 o1) → (IsTrue d1.tells → PutsLog d1.bytes head live i log b l1 l2 o1 o2)
-    → IsTrue d0.tells → HasCarried d0.bytes head live logs rest (i + 1) (accepted && b) l0 l2 o0 o2
-one_more_by d0 d1 head live logs log rest i accepted b l0 l1 l2 o0 o1 o2 same old puts tells =
-    one_more d0.bytes head live logs log rest i accepted b l0 l1 l2 o0 o1 o2 (old tells)
-    (subst (λ (file : List ℕ). PutsLog file head live i log b l1 l2 o1 o2) same.same_bytes (puts (subst IsTrue (sym same.same_tells) tells)))
+    → (IsTrue d0.is_known → HasCarried d0.bytes head live logs (log ∷ rest) i accepted l0 l1 o0 o1) → (IsTrue d1.is_known → PutsLog d1.bytes head live i log b l1 l2 o1 o2)
+    → IsTrue d0.is_known → HasCarried d0.bytes head live logs rest (i + 1) (accepted && b) l0 l2 o0 o2
+one_more_by d0 d1 head live logs log rest i accepted b l0 l1 l2 o0 o1 o2 same old puts is_known =
+    one_more d0.bytes head live logs log rest i accepted b l0 l1 l2 o0 o1 o2 (old is_known)
+    (subst (λ (file : List ℕ). PutsLog file head live i log b l1 l2 o1 o2) same.same_bytes (puts (subst IsTrue (sym same.same_known) is_known)))
 
 -- ---- when the job stops
 
@@ -82,16 +82,16 @@ nothing_of file head live i log stop.Memory l o not_sink = (refl, refl)
 
 -- it stopped within a log, behind those in front
 pub log_stops : (d0 d1 : DiskState) (head : Head) (live : Live) (logs : List Log) (log : Log) (rest : List Log) (i : ℕ) (accepted : Bool) (why : LogStop) (l0 l1 l2 o0 o1 o2 : Option (List ℕ)) → IsUnchanged d0 d1
-    → (IsTrue d0.tells → HasCarried d0.bytes head live logs (log ∷ rest) i accepted l0 l1 o0 o1) → (IsTrue d1.tells → StopsLog d1.bytes head live i log why l1 l2 o1 o2)
-    → IsTrue d0.tells → StopsCarrying d0.bytes head live logs why l0 l2 o0 o2
-log_stops d0 d1 head live logs log rest i accepted why l0 l1 l2 o0 o1 o2 same old stops tells = record {
+    → (IsTrue d0.is_known → HasCarried d0.bytes head live logs (log ∷ rest) i accepted l0 l1 o0 o1) → (IsTrue d1.is_known → StopsLog d1.bytes head live i log why l1 l2 o1 o2)
+    → IsTrue d0.is_known → StopsCarrying d0.bytes head live logs why l0 l2 o0 o2
+log_stops d0 d1 head live logs log rest i accepted why l0 l1 l2 o0 o1 o2 same old stops is_known = record {
   rest = log ∷ rest;
   i = i;
   accepted = accepted;
   frames = l1;
   lines = o1;
-  carried = old tells;
-  after = inl (log, rest, refl, subst (λ (file : List ℕ). StopsLog file head live i log why l1 l2 o1 o2) same.same_bytes (stops (subst IsTrue (sym same.same_tells) tells)));
+  carried = old is_known;
+  after = inl (log, rest, refl, subst (λ (file : List ℕ). StopsLog file head live i log why l1 l2 o1 o2) same.same_bytes (stops (subst IsTrue (sym same.same_known) is_known)));
 }
 
 -- the last line was cut
@@ -111,8 +111,8 @@ end_stops file head live bytes logs i accepted why l0 l1 o0 o1 o2 decoded carrie
   },
 ))
 
-tells_behind : (s0 s1 s2 : SinkState) (line : List ℕ) → s0.faults ≤ s1.faults → Tells s1 s2 line → Tells (record s0 { written = s1.written }) s2 line
-tells_behind s0 s1 s2 line later told = ⊎_elim (λ whole. inl whole) (λ cut. inr (cut.0, (let rose = cut.1 in omega arith))) told
+known_behind : (s0 s1 s2 : SinkState) (line : List ℕ) → s0.faults ≤ s1.faults → Tells s1 s2 line → Tells (record s0 { written = s1.written }) s2 line
+known_behind s0 s1 s2 line later told = ⊎_elim (λ whole. inl whole) (λ cut. inr (cut.0, (let rose = cut.1 in omega arith))) told
 
 -- by status
 pub halted : (file bytes : List ℕ) (head : Head) (live : Live) (why : LogStop) (l0 l1 : Option (List ℕ)) (s0 s1 s2 : SinkState) (status : ℕ) → OpensTo file head live → Stops file head live bytes why l0 l1 s0.written s1.written → s0.faults ≤ s1.faults
@@ -128,7 +128,7 @@ halted file bytes head live stop.Disk l0 l1 s0 s1 s2 status opens stops later en
     let five = ends.0 in
     record {
       output = λ is. absurd (omega (arith, five, is));
-      disk = λ is. (s1.written, inr (head, live, opens, stops), tells_behind s0 s1 s2 (codes "fault disk\n") later ends.1);
+      disk = λ is. (s1.written, inr (head, live, opens, stops), known_behind s0 s1 s2 (codes "fault disk\n") later ends.1);
       memory = λ is. absurd (omega (arith, five, is));
     }
 halted file bytes head live stop.Memory l0 l1 s0 s1 s2 status opens stops later ends =
@@ -136,7 +136,7 @@ halted file bytes head live stop.Memory l0 l1 s0 s1 s2 status opens stops later 
     record {
       output = λ is. absurd (omega (arith, eight, is));
       disk = λ is. absurd (omega (arith, eight, is));
-      memory = λ is. (s1.written, inr (head, live, opens, stops), tells_behind s0 s1 s2 (codes "fault memory\n") later ends.1);
+      memory = λ is. (s1.written, inr (head, live, opens, stops), known_behind s0 s1 s2 (codes "fault memory\n") later ends.1);
     }
 
 -- how a job that stopped ends

@@ -189,14 +189,14 @@ pub record CarriesLogs (disk0 disk1 : DiskState) (left0 left1 l0 l1 : Option (Li
   -- all bytes of the source were taken, unless it failed, memory ran out, or there are too many
   pub all : status ≢ 3 → status ≢ 8 → length bytes ≤ 2 ^ 30 → IsAtEnd left1
   pub unchanged : IsUnchanged disk0 disk1
-  pub done : IsDone status → IsTrue disk0.tells → CarriesOn disk0.bytes bytes l0 l1 out0.written out1.written status
-  pub halted : IsTrue disk0.tells → HasHalted disk0.bytes bytes l0 l1 out0 out1 status
+  pub done : IsDone status → IsTrue disk0.is_known → CarriesOn disk0.bytes bytes l0 l1 out0.written out1.written status
+  pub halted : IsTrue disk0.is_known → HasHalted disk0.bytes bytes l0 l1 out0 out1 status
   pub input_line : status ≡ 3 → Tells out0 out1 (codes "fault input\n")
   -- neither a frame nor a front of a frame was put
   pub no_frame : IsRefusal status → l1 ≡ l0
-  pub not_index : status ≡ 6 → (name : List ℕ) × Tells out0 out1 (not_index_text name) × (IsTrue disk0.tells → IsNoIndex disk0.bytes name)
+  pub not_index : status ≡ 6 → (name : List ℕ) × Tells out0 out1 (not_index_text name) × (IsTrue disk0.is_known → IsNoIndex disk0.bytes name)
   -- there are too many bytes, or the file has too many pages
-  pub long : status ≡ 7 → Tells out0 out1 (codes "fault long\n") × ((2 ^ 30 < length bytes) ⊎ (IsTrue disk0.tells → IsLarge disk0.bytes))
+  pub long : status ≡ 7 → Tells out0 out1 (codes "fault long\n") × ((2 ^ 30 < length bytes) ⊎ (IsTrue disk0.is_known → IsLarge disk0.bytes))
 
 -- ---- statuses
 

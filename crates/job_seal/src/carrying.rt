@@ -6,8 +6,8 @@ ghost use Rattle.outside_io.specs.Bytes.{AppendsPrefix};
 ghost use Rattle.outside_io.specs.Causes.{Rose};
 ghost use Rattle.outside_io.specs.Sinks.{Tells};
 ghost use Rattle.disk_model.specs.Disk.{IsUnchanged};
-ghost use Rattle.node_page.specs.Heads.{IsLawfulHead};
-ghost use Rattle.log_model.specs.Grammar.{IsLawfulLog};
+ghost use Rattle.node_page.specs.Heads.{IsValidHead};
+ghost use Rattle.log_model.specs.Grammar.{IsValidLog};
 ghost use Rattle.prune_log.specs.Spelling.{frame_bytes};
 ghost use Rattle.seal_log.specs.Carrying.{Carries};
 ghost use Rattle.seal_log.specs.Digests.{leaf_digests};
@@ -38,7 +38,7 @@ use std::alloc::Global;
 use tree_shape::Live;
 
 // Returns the first fault of a log over an opened index, and the cache of its pages.
-// Clauses: what is asked of the caller (`head`, `few`, `kept`, `lawful`); the answer (`told`, `kept`); what stays (`same`); the cause of an
+// Clauses: what is asked of the caller (`head`, `few`, `kept`, `valid`); the answer (`told`, `kept`); what stays (`same`); the cause of an
 // error (`disk`, `not_sink`); faults of the devices (`later`).
 fn judge_log<D: Disk>(
     alloc: Global,
@@ -47,12 +47,12 @@ fn judge_log<D: Disk>(
     kept: Kept,
     log: &Log,
 ) -> Result<(Option<Verdict>, Kept), LogStop>
-    requires head { IsLawfulHead opened.now.0 }
+    requires head { IsValidHead opened.now.0 }
     requires few { opened.now.1.pages ≤ 262144 }
     requires kept { IsKeptOf (D.state index.old) opened.now.0 opened.now.1 kept }
-    requires lawful { IsLawfulLog log.now }
+    requires valid { IsValidLog log.now }
     ensures same { IsUnchanged (D.state index.old) (D.state index.new) }
-    ensures told { IfOk result (λ x. IsTrue (D.state index.old).tells →
+    ensures told { IfOk result (λ x. IsTrue (D.state index.old).is_known →
         judged (D.state index.old).bytes opened.now.0 opened.now.1 log.now ≡ x.0) }
     ensures kept { IfOk result (λ x. IsKeptOf (D.state index.new) opened.now.0 opened.now.1 x.1) }
     ensures disk { IsErrOf result LogStop.Disk → Rose (D.state index.old).faults (D.state index.new).faults }
@@ -94,9 +94,9 @@ fn carried_frame<D: Disk>(
 ) -> Result<Vec<u8>, LogStop>
     requires some { 4 ≤ length tree.now }
     requires few { length tree.now ≤ 262144 }
-    requires lawful { IsLawfulLog log.now }
+    requires valid { IsValidLog log.now }
     ensures same { IsUnchanged (D.state index.old) (D.state index.new) }
-    ensures carries { IfOk result (λ put. IsTrue (D.state index.old).tells → (bytes : List ℕ)
+    ensures carries { IfOk result (λ put. IsTrue (D.state index.old).is_known → (bytes : List ℕ)
         × Carries (D.state index.old).bytes tree.now log.now bytes × (put.items ≡ frame_bytes bytes)) }
     ensures disk { IsErrOf result LogStop.Disk → Rose (D.state index.old).faults (D.state index.new).faults }
     ensures not_sink { IsErrOf result LogStop.Sink → ⊥ }
@@ -117,7 +117,7 @@ fn carried_frame<D: Disk>(
 }
 
 // Returns the frame and the line of a log with its first fault or none, and whether it has none.
-// Clauses: what is asked of the caller (`head`, `some`, `few`, `size`, `sealed`, `lawful`, `told`); the answer (`tells`); what stays
+// Clauses: what is asked of the caller (`head`, `some`, `few`, `size`, `sealed`, `valid`, `told`); the answer (`is_known`); what stays
 // (`same`); the cause of an error (`disk`, `not_sink`); faults of the devices (`later`).
 // Arguments: `index`, `opened` and `tree` are the file, its head and live slot, and its digests, and `number`, `log` and `found` are the
 // frame's number, its log and the log's first fault or none.
@@ -130,15 +130,15 @@ fn log_texts<D: Disk>(
     log: &Log,
     found: Option<Verdict>,
 ) -> Result<(Vec<u8>, Vec<u8>, bool), LogStop>
-    requires head { IsLawfulHead opened.now.0 }
+    requires head { IsValidHead opened.now.0 }
     requires some { 4 ≤ opened.now.1.pages }
     requires few { opened.now.1.pages ≤ 262144 }
     requires size { length tree.now ≡ opened.now.1.pages }
-    requires sealed { IsTrue (D.state index.old).tells → tree.now ≡ leaf_digests (D.state index.old).bytes opened.now.1.pages }
-    requires lawful { IsLawfulLog log.now }
-    requires told { IsTrue (D.state index.old).tells → judged (D.state index.old).bytes opened.now.0 opened.now.1 log.now ≡ found }
+    requires sealed { IsTrue (D.state index.old).is_known → tree.now ≡ leaf_digests (D.state index.old).bytes opened.now.1.pages }
+    requires valid { IsValidLog log.now }
+    requires told { IsTrue (D.state index.old).is_known → judged (D.state index.old).bytes opened.now.0 opened.now.1 log.now ≡ found }
     ensures same { IsUnchanged (D.state index.old) (D.state index.new) }
-    ensures tells { IfOk result (λ x. IsTrue (D.state index.old).tells →
+    ensures is_known { IfOk result (λ x. IsTrue (D.state index.old).is_known →
         TellsLog (D.state index.old).bytes opened.now.0 opened.now.1 number log.now x.0.items x.1.items x.2) }
     ensures disk { IsErrOf result LogStop.Disk → Rose (D.state index.old).faults (D.state index.new).faults }
     ensures not_sink { IsErrOf result LogStop.Sink → ⊥ }
@@ -153,7 +153,7 @@ fn log_texts<D: Disk>(
 }
 
 // Puts the frame and then the line of a log. Returns whether it has no fault, and the cache of the pages.
-// Clauses: what is asked of the caller (`head`, `some`, `few`, `size`, `sealed`, `kept`, `lawful`); the answer (`kept`); what is written
+// Clauses: what is asked of the caller (`head`, `some`, `few`, `size`, `sealed`, `kept`, `valid`); the answer (`kept`); what is written
 // (`puts`, `stops`); what stays (`same`); the cause of an error (`disk`, `output`); faults of the devices (`later`, `out_later`,
 // `log_later`).
 // Arguments: `index`, `opened`, `tree` and `kept` are the file, its head and live slot, its digests and the cache of its pages, `number`
@@ -169,18 +169,18 @@ fn carry_log<D: Disk, K: Sink, L: Sink>(
     out: &mut K,
     log_out: &mut L,
 ) -> Result<(bool, Kept), LogStop>
-    requires head { IsLawfulHead opened.now.0 }
+    requires head { IsValidHead opened.now.0 }
     requires some { 4 ≤ opened.now.1.pages }
     requires few { opened.now.1.pages ≤ 262144 }
     requires size { length tree.now ≡ opened.now.1.pages }
-    requires sealed { IsTrue (D.state index.old).tells → tree.now ≡ leaf_digests (D.state index.old).bytes opened.now.1.pages }
+    requires sealed { IsTrue (D.state index.old).is_known → tree.now ≡ leaf_digests (D.state index.old).bytes opened.now.1.pages }
     requires kept { IsKeptOf (D.state index.old) opened.now.0 opened.now.1 kept }
-    requires lawful { IsLawfulLog log.now }
+    requires valid { IsValidLog log.now }
     ensures same { IsUnchanged (D.state index.old) (D.state index.new) }
-    ensures puts { IfOk result (λ x. IsTrue (D.state index.old).tells →
+    ensures puts { IfOk result (λ x. IsTrue (D.state index.old).is_known →
         PutsLog (D.state index.old).bytes opened.now.0 opened.now.1 number log.now x.0
         (L.state log_out.old).written (L.state log_out.new).written (K.state out.old).written (K.state out.new).written) }
-    ensures stops { IfErr result (λ why. IsTrue (D.state index.old).tells →
+    ensures stops { IfErr result (λ why. IsTrue (D.state index.old).is_known →
         StopsLog (D.state index.old).bytes opened.now.0 opened.now.1 number log.now why
         (L.state log_out.old).written (L.state log_out.new).written (K.state out.old).written (K.state out.new).written) }
     ensures kept { IfOk result (λ x. IsKeptOf (D.state index.new) opened.now.0 opened.now.1 x.1) }
@@ -203,7 +203,7 @@ fn carry_log<D: Disk, K: Sink, L: Sink>(
 }
 
 // Puts the frames and the lines of logs. Returns whether none has a fault.
-// Clauses: what is asked of the caller (`head`, `some`, `few`, `size`, `sealed`, `kept`, `lawful`); what is written (`puts`, `stops`); what
+// Clauses: what is asked of the caller (`head`, `some`, `few`, `size`, `sealed`, `kept`, `valid`); what is written (`puts`, `stops`); what
 // stays (`same`); the cause of an error (`disk`, `output`); faults of the devices (`later`, `out_later`, `log_later`).
 // Arguments: `index`, `opened`, `tree` and `kept` are the file, its head and live slot, its digests and the cache of its pages, and `out`
 // and `log_out` are written.
@@ -217,18 +217,18 @@ fn carry_all<D: Disk, K: Sink, L: Sink>(
     out: &mut K,
     log_out: &mut L,
 ) -> Result<bool, LogStop>
-    requires head { IsLawfulHead opened.now.0 }
+    requires head { IsValidHead opened.now.0 }
     requires some { 4 ≤ opened.now.1.pages }
     requires few { opened.now.1.pages ≤ 262144 }
     requires size { length tree.now ≡ opened.now.1.pages }
-    requires sealed { IsTrue (D.state index.old).tells → tree.now ≡ leaf_digests (D.state index.old).bytes opened.now.1.pages }
+    requires sealed { IsTrue (D.state index.old).is_known → tree.now ≡ leaf_digests (D.state index.old).bytes opened.now.1.pages }
     requires kept { IsKeptOf (D.state index.old) opened.now.0 opened.now.1 kept }
-    requires lawful { All IsLawfulLog logs.items }
+    requires valid { All IsValidLog logs.items }
     ensures same { IsUnchanged (D.state index.old) (D.state index.new) }
-    ensures puts { IfOk result (λ accepted. IsTrue (D.state index.old).tells →
+    ensures puts { IfOk result (λ accepted. IsTrue (D.state index.old).is_known →
         HasCarried (D.state index.old).bytes opened.now.0 opened.now.1 logs.items [] (length logs.items) accepted
         (L.state log_out.old).written (L.state log_out.new).written (K.state out.old).written (K.state out.new).written) }
-    ensures stops { IfErr result (λ why. IsTrue (D.state index.old).tells →
+    ensures stops { IfErr result (λ why. IsTrue (D.state index.old).is_known →
         StopsCarrying (D.state index.old).bytes opened.now.0 opened.now.1 logs.items why
         (L.state log_out.old).written (L.state log_out.new).written (K.state out.old).written (K.state out.new).written) }
     ensures disk { IsErrOf result LogStop.Disk → Rose (D.state index.old).faults (D.state index.new).faults }
@@ -277,16 +277,16 @@ fn carry_bytes<D: Disk, K: Sink, L: Sink>(
     out: &mut K,
     log_out: &mut L,
 ) -> Result<Status, LogStop>
-    requires head { IsLawfulHead opened.now.0 }
+    requires head { IsValidHead opened.now.0 }
     requires some { 4 ≤ opened.now.1.pages }
     requires few { opened.now.1.pages ≤ 262144 }
     requires size { length tree.now ≡ opened.now.1.pages }
-    requires sealed { IsTrue (D.state index.old).tells → tree.now ≡ leaf_digests (D.state index.old).bytes opened.now.1.pages }
+    requires sealed { IsTrue (D.state index.old).is_known → tree.now ≡ leaf_digests (D.state index.old).bytes opened.now.1.pages }
     ensures same { IsUnchanged (D.state index.old) (D.state index.new) }
-    ensures ends { IfOk result (λ status. IsTrue (D.state index.old).tells →
+    ensures ends { IfOk result (λ status. IsTrue (D.state index.old).is_known →
         EndsCarried (D.state index.old).bytes opened.now.0 opened.now.1 bytes.now
         (L.state log_out.old).written (L.state log_out.new).written (K.state out.old).written (K.state out.new).written status.0) }
-    ensures stops { IfErr result (λ why. IsTrue (D.state index.old).tells →
+    ensures stops { IfErr result (λ why. IsTrue (D.state index.old).is_known →
         Stops (D.state index.old).bytes opened.now.0 opened.now.1 bytes.now why
         (L.state log_out.old).written (L.state log_out.new).written (K.state out.old).written (K.state out.new).written) }
     ensures statuses { IfOk result (λ status. IsDone status.0) }
@@ -323,14 +323,14 @@ fn carry_opened<D: Disk, K: Sink, L: Sink>(
     out: &mut K,
     log_out: &mut L,
 ) -> Result<Status, LogStop>
-    requires head { IsLawfulHead opened.now.0 }
+    requires head { IsValidHead opened.now.0 }
     requires some { 4 ≤ opened.now.1.pages }
     requires few { opened.now.1.pages ≤ 262144 }
     ensures same { IsUnchanged (D.state index.old) (D.state index.new) }
-    ensures ends { IfOk result (λ status. IsTrue (D.state index.old).tells →
+    ensures ends { IfOk result (λ status. IsTrue (D.state index.old).is_known →
         EndsCarried (D.state index.old).bytes opened.now.0 opened.now.1 bytes.now
         (L.state log_out.old).written (L.state log_out.new).written (K.state out.old).written (K.state out.new).written status.0) }
-    ensures stops { IfErr result (λ why. IsTrue (D.state index.old).tells →
+    ensures stops { IfErr result (λ why. IsTrue (D.state index.old).is_known →
         Stops (D.state index.old).bytes opened.now.0 opened.now.1 bytes.now why
         (L.state log_out.old).written (L.state log_out.new).written (K.state out.old).written (K.state out.new).written) }
     ensures statuses { IfOk result (λ status. IsDone status.0) }
@@ -359,14 +359,14 @@ fn carry_index<D: Disk, K: Sink, L: Sink>(
     log_out: &mut L,
 ) -> Status
     ensures same { IsUnchanged (D.state index.old) (D.state index.new) }
-    ensures done { IsDone result.0 → IsTrue (D.state index.old).tells → CarriesOn (D.state index.old).bytes bytes.now
+    ensures done { IsDone result.0 → IsTrue (D.state index.old).is_known → CarriesOn (D.state index.old).bytes bytes.now
         (L.state log_out.old).written (L.state log_out.new).written (K.state out.old).written (K.state out.new).written result.0 }
-    ensures halted { IsTrue (D.state index.old).tells → HasHalted (D.state index.old).bytes bytes.now (L.state log_out.old).written
+    ensures halted { IsTrue (D.state index.old).is_known → HasHalted (D.state index.old).bytes bytes.now (L.state log_out.old).written
         (L.state log_out.new).written (K.state out.old) (K.state out.new) result.0 }
     ensures not_index { result.0 ≡ 6 → (name : List ℕ) × Tells (K.state out.old) (K.state out.new) (not_index_text name)
-        × (IsTrue (D.state index.old).tells → IsNoIndex (D.state index.old).bytes name) }
+        × (IsTrue (D.state index.old).is_known → IsNoIndex (D.state index.old).bytes name) }
     ensures long { result.0 ≡ 7 → Tells (K.state out.old) (K.state out.new) (codes "fault long\n")
-        × (IsTrue (D.state index.old).tells → IsLarge (D.state index.old).bytes) }
+        × (IsTrue (D.state index.old).is_known → IsLarge (D.state index.old).bytes) }
     ensures kept { (result.0 ≡ 6) ⊎ (result.0 ≡ 7) → log_out.new ≡ log_out.old }
     ensures statuses { IsCarryStatus result.0 }
     ensures disk { result.0 ≡ 5 → Rose (D.state index.old).faults (D.state index.new).faults }

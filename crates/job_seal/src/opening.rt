@@ -1,7 +1,7 @@
 // Opens an index that is not too large to be sealed.
 ghost use Rattle.std.specs.Prelude.{◌≡◌, ◌≤◌, IsTrue, IfOk, IfErr, OnOk};
 ghost use Rattle.disk_model.specs.Disk.{IsUnchanged};
-ghost use Rattle.node_page.specs.Heads.{IsLawfulHead};
+ghost use Rattle.node_page.specs.Heads.{IsValidHead};
 ghost use Rattle.node_page.specs.Opening.{OpensTo};
 ghost use Rattle.job_seal.specs.Seals.{Refuses};
 
@@ -17,9 +17,9 @@ use tree_shape::Live;
 /// faults of the devices (`later`, `written_later`).
 pub fn open_small<D: Disk, K: Sink>(disk: &mut D, out: &mut K) -> Result<(Head, Live), Status>
     ensures same { IsUnchanged (D.state disk.old) (D.state disk.new) }
-    ensures opens { IfOk result (λ opened. IsTrue (D.state disk.old).tells → OpensTo (D.state disk.old).bytes opened.0 opened.1) }
+    ensures opens { IfOk result (λ opened. IsTrue (D.state disk.old).is_known → OpensTo (D.state disk.old).bytes opened.0 opened.1) }
     ensures version { IfOk result (λ opened. opened.0.version ≡ 2) }
-    ensures head { IfOk result (λ opened. IsLawfulHead opened.0) }
+    ensures head { IfOk result (λ opened. IsValidHead opened.0) }
     ensures some { IfOk result (λ opened. 4 ≤ opened.1.pages) }
     ensures few { IfOk result (λ opened. opened.1.pages ≤ 262144) }
     ensures silent { OnOk result (out.new ≡ out.old) }

@@ -9,7 +9,7 @@ use Rattle.page_store.specs.Reading.{nodes_of, node_or_none}
 use Rattle.page_store.specs.Shelf.{Shelf, IsPassing}
 use Rattle.page_store.specs.Tours.{HasTourCause, IsToured, NamesInside}
 
-module _ (one_course : TourHasOneCourse) (live : Live) (old new : Shelf) (tells : IsTrue old.tells) (toured : IsToured (nodes_of old.read) live) where
+module _ (one_course : TourHasOneCourse) (live : Live) (old new : Shelf) (is_known : IsTrue old.is_known) (toured : IsToured (nodes_of old.read) live) where
   no_node : (page : ℕ) (fault : PageFault) → (old.read page ≡ Err fault) × NamesInside (nodes_of old.read) live page → ⊥
   no_node page fault why =
       let there = ((one_course (nodes_of old.read) live.root why.1.0 page why.1.2).1 live.pages toured).1 in
@@ -20,9 +20,9 @@ module _ (one_course : TourHasOneCourse) (live : Live) (old new : Shelf) (tells 
   pub untoured : (fault : PageFault) → HasTourCause live old new fault → (IsPassing fault → ⊥) → ⊥
   untoured Disk cause not_passing = not_passing tt
   untoured Memory cause not_passing = not_passing tt
-  untoured (Bad page fault) cause not_passing = no_node page (Bad page fault) (cause.2 tells)
-  untoured (Outside page) cause not_passing = no_node page (Outside page) (cause.1 tells)
+  untoured (Bad page fault) cause not_passing = no_node page (Bad page fault) (cause.2 is_known)
+  untoured (Outside page) cause not_passing = no_node page (Outside page) (cause.1 is_known)
   untoured (Repeats page) cause not_passing =
-      let low = ((one_course (nodes_of old.read) live.root live.pages page (cause.1 tells)).1 live.pages toured).0 in
+      let low = ((one_course (nodes_of old.read) live.root live.pages page (cause.1 is_known)).1 live.pages toured).0 in
       omega (arith, low)
   untoured (Level page) cause not_passing = cause

@@ -5,7 +5,7 @@ use Rattle.page_store.specs.Reading.{Read}
 use Rattle.page_store.specs.Shelf.{Shelf, HoldsSame}
 use Rattle.log_model.specs.declared.logs.Log.{Log}
 use Rattle.job_files.specs.declared.logs.stop.LogStop.{LogStop}
-use Rattle.job_files.specs.Logs.Sayings.{are_sound}
+use Rattle.job_files.specs.Logs.JobReports.{are_sound}
 use Rattle.job_files.specs.Logs.Jobs.{Puts}
 use Rattle.job_show.specs.declared.view.View.{View}
 use Rattle.job_show.specs.Steps.{fault_by, text_by, texts_by}

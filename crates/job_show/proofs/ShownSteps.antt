@@ -27,15 +27,15 @@ with_rest lines counts rest = record { lines = lines ++ rest.lines; counts = tog
 module _ (f : Search) (old mid : Shelf) (same : HoldsSame old mid) (records : List Record) (i : ℕ) (r : Record) (low : i < length records) (is : r ≡ get_or records i r) (whole : Shown) where
   -- one record further
   pub way_next : (lines lines2 : List ℕ) (counts counts2 : Counts) (stack stack2 : List Coming)
-      → (IsTrue mid.tells → (rs : List Record) → with_rest lines counts (shown f mid.read stack (r ∷ rs)) ≡ with_rest lines2 counts2 (shown f mid.read stack2 rs))
-      → (IsTrue old.tells → with_rest lines counts (shown f old.read stack (drop i records)) ≡ whole)
-      → IsTrue old.tells → with_rest lines2 counts2 (shown f old.read stack2 (drop (i + 1) records)) ≡ whole
-  way_next lines lines2 counts counts2 stack stack2 step so_far tells =
+      → (IsTrue mid.is_known → (rs : List Record) → with_rest lines counts (shown f mid.read stack (r ∷ rs)) ≡ with_rest lines2 counts2 (shown f mid.read stack2 rs))
+      → (IsTrue old.is_known → with_rest lines counts (shown f old.read stack (drop i records)) ≡ whole)
+      → IsTrue old.is_known → with_rest lines2 counts2 (shown f old.read stack2 (drop (i + 1) records)) ≡ whole
+  way_next lines lines2 counts counts2 stack stack2 step so_far is_known =
       ap (λ (read : Read). with_rest lines2 counts2 (shown f read stack2 (drop (i + 1) records))) (sym same.read)
-      ∙ sym (step (same.tells ∙ tells) (drop (i + 1) records))
+      ∙ sym (step (same.is_known ∙ is_known) (drop (i + 1) records))
       ∙ ap (λ (read : Read). with_rest lines counts (shown f read stack (r ∷ drop (i + 1) records))) same.read
       ∙ ap (λ (rs : List Record). with_rest lines counts (shown f old.read stack rs)) (ap (λ (x : Record). x ∷ drop (i + 1) records) is ∙ sym (drop_more records i r low))
-      ∙ so_far tells
+      ∙ so_far is_known
 
 -- ---- depths
 

@@ -115,11 +115,11 @@ all_shown f read (c ∷ cs) (r ∷ rs) hits walk =
     ∙ ap (λ (o : Option ℕ). node_then (node_lines f c node r.marks) r.marks (if is_none o then shown f read after rs else nothing_shown)) fine.1 in
     subst (λ (what : Shown). IsAll what (r ∷ rs)) (sym here) (one_more f c node r rs (shown f read after rs) deep)
 
-named : (a b c d : ℕ) (fits : Bool) → a ≡ b → c ≡ d → fits ≡ true → ((a == b) && ((c == d) && fits)) ≡ true
-named a b c d fits one two three = grind (arith, nat_tests)
+named : (a b c d : ℕ) (is_point : Bool) → a ≡ b → c ≡ d → is_point ≡ true → ((a == b) && ((c == d) && is_point)) ≡ true
+named a b c d is_point one two three = grind (arith, nat_tests)
 
 pub sound_whole : (s : Space) (read : Read) (live : Live) (log : Log) → IsSoundLog s (nodes_of read) live log → IsAll (shown_of s read live log) log.records
 sound_whole s read live log sound =
-    let names : names_tree s live log ≡ true = named log.generation live.generation log.root live.root (s.fits (query_point log.query)) sound.generation_is sound.root_is sound.point_fits in
+    let names : names_tree s live log ≡ true = named log.generation live.generation log.root live.root (s.is_point (query_point log.query)) sound.generation_is sound.root_is sound.point_fits in
     let whole = all_shown (search_for s log.query log.answers) read (root_coming live.root ∷ []) log.records sound.hits sound.walk in
     subst (λ (b : Bool). IsAll (if b then shown (search_for s log.query log.answers) read (root_coming live.root ∷ []) log.records else nothing_shown) log.records) (sym names) whole

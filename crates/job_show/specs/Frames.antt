@@ -44,7 +44,7 @@ count_head = codes "frame opened nodes skip far near distances verdict\n"
 
 -- the log names the live tree, and its point is one of the space
 abbrev pub names_tree : Space → Live → Log → Bool
-names_tree s live log = (log.generation == live.generation) && ((log.root == live.root) && s.fits (query_point log.query))
+names_tree s live log = (log.generation == live.generation) && ((log.root == live.root) && s.is_point (query_point log.query))
 
 -- what is shown of a log's walk; nothing where the log names another tree, or its point is not one of the space
 abbrev pub shown_of : Space → Read → Live → Log → Shown

@@ -19,13 +19,13 @@ use Rattle.job_files.specs.Spaces.{space_of}
 use Rattle.job_files.specs.declared.logs.report.Report.TheVariants as report
 use Rattle.job_files.specs.Logs.Files.{read_of}
 use Rattle.job_files.specs.Logs.Lines.{undecoded_text}
-use Rattle.job_files.specs.Logs.Sayings.{Saying, are_sound, end_text}
+use Rattle.job_files.specs.Logs.JobReports.{JobReport, are_sound, end_text}
 use Rattle.job_files.specs.Logs.Jobs.{JudgesBytes, ReadsLogs, Writes}
 use Rattle.job_show.specs.declared.report.Marks.{Marks}
 use Rattle.job_show.specs.Frames.{frame_texts, head_texts}
 
 -- what is said of bytes that were read as logs, or that have a fault
-abbrev pub showing : Marks → Space → Read → Live → Option ℕ → Result (List Log) LogFault → Saying
+abbrev pub showing : Marks → Space → Read → Live → Option ℕ → Result (List Log) LogFault → JobReport
 showing what s read live nodes (Err why) = record { texts = undecoded_text why ∷ []; status = 1 }
 showing what s read live nodes (Ok logs) = record {
   texts = head_texts what ++ frame_texts what s read live nodes 0 logs
@@ -40,7 +40,7 @@ AreNodes read live (Some count) = HasNodes (nodes_of read) live count
 AreNodes read live None = ¬ IsToured (nodes_of read) live
 
 -- what is said about a file that opens and the bytes of its logs
-pub record Shows (what : Marks) (file bytes : List ℕ) (said : Saying) : Type 0 where
+pub record Shows (what : Marks) (file bytes : List ℕ) (said : JobReport) : Type 0 where
   pub head : Head
   pub live : Live
   pub opens : OpensTo file head live
@@ -52,13 +52,13 @@ pub record Shows (what : Marks) (file bytes : List ℕ) (said : Saying) : Type 0
 -- where the disk tells its bytes, the job said what there is to say about its file and the logs
 abbrev pub WritesShown : Marks → DiskState → List ℕ → SinkState → SinkState → ℕ → Type 0
 WritesShown what disk bytes old new status =
-    IsTrue disk.tells → (said : Saying) × Shows what disk.bytes bytes said × Writes status said old new
+    IsTrue disk.is_known → (said : JobReport) × Shows what disk.bytes bytes said × Writes status said old new
 
 -- what the job does with an index and the bytes of its logs
 abbrev pub ShowsBytes : Marks → DiskState → DiskState → List ℕ → SinkState → SinkState → ℕ → Type 0
 ShowsBytes what disk0 disk1 bytes out0 out1 status =
     JudgesBytes (IsUnchanged disk0 disk1) (WritesShown what disk0 bytes out0 out1 status) (Rose disk0.faults disk1.faults)
-    (λ name. IsTrue disk0.tells → IsNoIndex disk0.bytes name) out0 out1 status
+    (λ name. IsTrue disk0.is_known → IsNoIndex disk0.bytes name) out0 out1 status
 
 -- what the job does with the bytes of logs that it takes from `left0`
 abbrev pub ShowsLogs : Marks → DiskState → DiskState → Option (List ℕ) → Option (List ℕ) → SinkState → SinkState → ℕ → Type 0

@@ -11,7 +11,7 @@ use Rattle.log_model.specs.Walk.{Search, search_at}
 use Rattle.log_verify.specs.Judged.{log_fault}
 use Rattle.log_verify.specs.declared.faults.Verdict.{Verdict}
 use Rattle.prune_log.specs.declared.fault.LogFault.{LogFault}
-use Rattle.job_files.specs.Logs.Sayings.{Saying}
+use Rattle.job_files.specs.Logs.JobReports.{JobReport}
 use Rattle.job_show.specs.declared.entries.Gauge.{Gauge}
 use Rattle.job_show.specs.declared.shown.Coming.{Coming}
 use Rattle.job_show.specs.declared.shown.Counts.{Counts}
@@ -67,5 +67,5 @@ abbrev pub texts_by : View → Read → ℕ → List Log → List (List ℕ)
 texts_by view read i logs = frame_texts view.marks (space_in view.space) read view.live view.nodes i logs
 
 -- what is said of bytes that were read as logs, or that have a fault
-abbrev pub said_by : View → Read → Result (List Log) LogFault → Saying
+abbrev pub said_by : View → Read → Result (List Log) LogFault → JobReport
 said_by view read logs = showing view.marks (space_in view.space) read view.live view.nodes logs

@@ -3,10 +3,10 @@ ghost use Rattle.std.specs.Prelude.{◌≡◌, ◌⊎◌, ◌≤◌, ◌<◌, �
 ghost use Rattle.std.specs.Option.{is_none};
 ghost use Rattle.outside_io.specs.Causes.{Rose};
 ghost use Rattle.page_store.specs.Shelf.{HoldsSame};
-ghost use Rattle.log_model.specs.Grammar.{IsLawfulLog, query_point};
+ghost use Rattle.log_model.specs.Grammar.{IsValidLog, query_point};
 ghost use Rattle.prune_log.specs.Reading.{log_at, frames_at};
 ghost use Rattle.job_files.specs.Logs.Jobs.{Puts, stop_of};
-ghost use Rattle.job_files.specs.Logs.Sayings.{are_sound, end_text};
+ghost use Rattle.job_files.specs.Logs.JobReports.{are_sound, end_text};
 ghost use Rattle.job_show.specs.Frames.{head_texts, names_tree, shown_of};
 ghost use Rattle.job_show.specs.Steps.{fault_by, said_by, space_in, text_by, texts_by};
 
@@ -41,7 +41,7 @@ fn names_tree(view: &View, log: &Log) -> bool
 {
     log.generation == view.live.generation
         && log.root == view.live.root
-        && view.space.fits(point_of(&log.query))
+        && view.space.is_point(point_of(&log.query))
 }
 
 // Shows the walk of a log. Nothing is shown where it names another tree, or its point is not one of the space.
@@ -51,12 +51,12 @@ fn show_walk<P: Pages>(
     pages: &mut P,
     log: &Log,
 ) -> Result<Walk, LogStop>
-    requires { IsLawfulLog log.now }
+    requires { IsValidLog log.now }
     ensures same { HoldsSame (P.shelf pages.old) (P.shelf pages.new) }
     ensures keeps { P.keeps pages.old pages.new }
-    ensures lines { IfOk result (λ walk. IsTrue (P.shelf pages.old).tells →
+    ensures lines { IfOk result (λ walk. IsTrue (P.shelf pages.old).is_known →
         walk.lines.items ≡ (shown_of (space_in view.now.space) (P.shelf pages.old).read view.now.live log.now).lines) }
-    ensures counts { IfOk result (λ walk. IsTrue (P.shelf pages.old).tells →
+    ensures counts { IfOk result (λ walk. IsTrue (P.shelf pages.old).is_known →
         walk.counts ≡ (shown_of (space_in view.now.space) (P.shelf pages.old).read view.now.live log.now).counts) }
     ensures few { IfOk result (λ walk. walk.counts.fars + walk.counts.nears < 2 ^ 64) }
     ensures disk { IsErrOf result LogStop.Disk → Rose (P.shelf pages.old).faults (P.shelf pages.new).faults }
@@ -82,12 +82,12 @@ fn show_frame<P: Pages, K: Sink>(
     log: Log,
     out: &mut K,
 ) -> Result<bool, LogStop>
-    requires { IsLawfulLog log }
+    requires { IsValidLog log }
     ensures same { HoldsSame (P.shelf pages.old) (P.shelf pages.new) }
     ensures keeps { P.keeps pages.old pages.new }
-    ensures puts { IsTrue (P.shelf pages.old).tells → Puts (text_by view.now (P.shelf pages.old).read frame log ∷ [])
+    ensures puts { IsTrue (P.shelf pages.old).is_known → Puts (text_by view.now (P.shelf pages.old).read frame log ∷ [])
         (K.state out.old).written (K.state out.new).written (stop_of result) }
-    ensures sound { IfOk result (λ sound. IsTrue (P.shelf pages.old).tells →
+    ensures sound { IfOk result (λ sound. IsTrue (P.shelf pages.old).is_known →
         sound ≡ is_none (fault_by view.now (P.shelf pages.old).read log)) }
     ensures later { (K.state out.old).faults ≤ (K.state out.new).faults }
     ensures output { IsErrOf result LogStop.Sink → Rose (K.state out.old).faults (K.state out.new).faults }
@@ -108,12 +108,12 @@ fn show_frames<P: Pages, K: Sink>(
     logs: Vec<Log>,
     out: &mut K,
 ) -> Result<bool, LogStop>
-    requires { All IsLawfulLog logs.items }
+    requires { All IsValidLog logs.items }
     ensures same { HoldsSame (P.shelf pages.old) (P.shelf pages.new) }
     ensures keeps { P.keeps pages.old pages.new }
-    ensures puts { IsTrue (P.shelf pages.old).tells → Puts (texts_by view.now (P.shelf pages.old).read 0 logs.items)
+    ensures puts { IsTrue (P.shelf pages.old).is_known → Puts (texts_by view.now (P.shelf pages.old).read 0 logs.items)
         (K.state out.old).written (K.state out.new).written (stop_of result) }
-    ensures sound { IfOk result (λ sound. IsTrue (P.shelf pages.old).tells →
+    ensures sound { IfOk result (λ sound. IsTrue (P.shelf pages.old).is_known →
         sound ≡ are_sound (fault_by view.now (P.shelf pages.old).read) logs.items) }
     ensures later { (K.state out.old).faults ≤ (K.state out.new).faults }
     ensures output { IsErrOf result LogStop.Sink → Rose (K.state out.old).faults (K.state out.new).faults }
@@ -161,12 +161,12 @@ fn show_all<P: Pages, K: Sink>(
     logs: Vec<Log>,
     out: &mut K,
 ) -> Result<bool, LogStop>
-    requires { All IsLawfulLog logs.items }
+    requires { All IsValidLog logs.items }
     ensures same { HoldsSame (P.shelf pages.old) (P.shelf pages.new) }
     ensures keeps { P.keeps pages.old pages.new }
-    ensures puts { IsTrue (P.shelf pages.old).tells → Puts (said_by view.now (P.shelf pages.old).read (Ok logs.items)).texts
+    ensures puts { IsTrue (P.shelf pages.old).is_known → Puts (said_by view.now (P.shelf pages.old).read (Ok logs.items)).texts
         (K.state out.old).written (K.state out.new).written (stop_of result) }
-    ensures sound { IfOk result (λ sound. IsTrue (P.shelf pages.old).tells →
+    ensures sound { IfOk result (λ sound. IsTrue (P.shelf pages.old).is_known →
         sound ≡ are_sound (fault_by view.now (P.shelf pages.old).read) logs.items) }
     ensures later { (K.state out.old).faults ≤ (K.state out.new).faults }
     ensures output { IsErrOf result LogStop.Sink → Rose (K.state out.old).faults (K.state out.new).faults }
@@ -188,10 +188,10 @@ pub fn show_bytes<P: Pages, K: Sink>(
 ) -> Result<Status, LogStop>
     ensures same { HoldsSame (P.shelf pages.old) (P.shelf pages.new) }
     ensures keeps { P.keeps pages.old pages.new }
-    ensures puts { IsTrue (P.shelf pages.old).tells →
+    ensures puts { IsTrue (P.shelf pages.old).is_known →
         Puts (said_by view.now (P.shelf pages.old).read (frames_at log_at bytes.now)).texts
         (K.state out.old).written (K.state out.new).written (stop_of result) }
-    ensures status { IfOk result (λ status. IsTrue (P.shelf pages.old).tells →
+    ensures status { IfOk result (λ status. IsTrue (P.shelf pages.old).is_known →
         status.0 ≡ (said_by view.now (P.shelf pages.old).read (frames_at log_at bytes.now)).status) }
     ensures statuses { IfOk result (λ status. (status.0 ≡ 0) ⊎ (status.0 ≡ 1)) }
     ensures later { (K.state out.old).faults ≤ (K.state out.new).faults }

@@ -5,7 +5,7 @@ ghost use Rattle.job_files.specs.Logs.Jobs.{IsJudgeStatus, IsLogStatus};
 ghost use Rattle.job_show.specs.Jobs.{ShowsBytes, ShowsLogs};
 
 use crate::Marks;
-use crate::opened::{Docket, count_opened, show_opened};
+use crate::opened::{Request, count_opened, show_opened};
 use disk_model::Disk;
 use job_files::logs::{end_stopped, read_logs};
 use job_files::open_index;
@@ -33,12 +33,12 @@ fn show_index<D: Disk, K: Sink>(
         Ok(nodes) => nodes,
         Err(why) => return end_stopped(why, out),
     };
-    let docket = Docket {
+    let request = Request {
         marks,
         nodes,
         bytes,
     };
-    match show_opened(alloc, &docket, index, &opened, out) {
+    match show_opened(alloc, &request, index, &opened, out) {
         Ok(status) => status,
         Err(why) => end_stopped(why, out),
     }

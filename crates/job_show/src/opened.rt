@@ -2,7 +2,7 @@
 ghost use Rattle.std.specs.Prelude.{◌≡◌, ◌⊎◌, ◌≤◌, ◌^◌, IsTrue, IfOk, IsErrOf};
 ghost use Rattle.outside_io.specs.Causes.{Rose};
 ghost use Rattle.disk_model.specs.Disk.{IsUnchanged};
-ghost use Rattle.node_page.specs.Heads.{IsLawfulHead};
+ghost use Rattle.node_page.specs.Heads.{IsValidHead};
 ghost use Rattle.page_store.specs.Shelf.{HoldsSame};
 ghost use Rattle.prune_log.specs.Reading.{log_at, frames_at};
 ghost use Rattle.job_files.specs.Spaces.{space_of};
@@ -29,7 +29,7 @@ use tree_shape::Live;
 
 // The bytes of the logs, and how they are shown.
 #[derive(Clone, Copy)]
-pub struct Docket<'a> {
+pub struct Request<'a> {
     // What is shown of the marks.
     pub marks: Marks,
     // The number of the tree's nodes, or `None` where the tree can't be walked.
@@ -42,7 +42,7 @@ pub struct Docket<'a> {
 fn nodes_in<P: Pages>(alloc: Global, pages: &mut P, live: &Live) -> Result<Option<u32>, LogStop>
     ensures keeps { P.keeps pages.old pages.new }
     ensures later { (P.shelf pages.old).faults ≤ (P.shelf pages.new).faults }
-    ensures nodes { IfOk result (λ nodes. IsTrue (P.shelf pages.old).tells → AreNodes (P.shelf pages.old).read live.now nodes) }
+    ensures nodes { IfOk result (λ nodes. IsTrue (P.shelf pages.old).is_known → AreNodes (P.shelf pages.old).read live.now nodes) }
     ensures disk { IsErrOf result LogStop.Disk → Rose (P.shelf pages.old).faults (P.shelf pages.new).faults }
     ensures not_sink { IsErrOf result LogStop.Sink → ⊥ }
 {
@@ -62,10 +62,10 @@ pub fn count_opened<D: Disk>(
     index: &mut D,
     opened: &(Head, Live),
 ) -> Result<Option<u32>, LogStop>
-    requires head { IsLawfulHead opened.now.0 }
+    requires head { IsValidHead opened.now.0 }
     requires pages { opened.now.1.pages ≤ 2 ^ 24 }
     ensures same { IsUnchanged (D.state index.old) (D.state index.new) }
-    ensures nodes { IfOk result (λ nodes. IsTrue (D.state index.old).tells →
+    ensures nodes { IfOk result (λ nodes. IsTrue (D.state index.old).is_known →
         AreNodes (read_of (D.state index.old).bytes opened.now.0 opened.now.1) opened.now.1 nodes) }
     ensures later { (D.state index.old).faults ≤ (D.state index.new).faults }
     ensures disk { IsErrOf result LogStop.Disk → Rose (D.state index.old).faults (D.state index.new).faults }
@@ -81,21 +81,21 @@ pub fn count_opened<D: Disk>(
 // (`puts`); what stays (`same`); the cause of an error (`output`, `disk`); faults of the devices (`later`).
 pub fn show_opened<D: Disk, K: Sink>(
     alloc: Global,
-    docket: &Docket<'_>,
+    request: &Request<'_>,
     index: &mut D,
     opened: &(Head, Live),
     out: &mut K,
 ) -> Result<Status, LogStop>
-    requires head { IsLawfulHead opened.now.0 }
+    requires head { IsValidHead opened.now.0 }
     requires pages { opened.now.1.pages ≤ 2 ^ 24 }
     ensures same { IsUnchanged (D.state index.old) (D.state index.new) }
-    ensures puts { IsTrue (D.state index.old).tells →
-        Puts (showing docket.now.marks (space_of opened.now.0) (read_of (D.state index.old).bytes opened.now.0 opened.now.1)
-        opened.now.1 docket.now.nodes (frames_at log_at docket.now.bytes.now)).texts
+    ensures puts { IsTrue (D.state index.old).is_known →
+        Puts (showing request.now.marks (space_of opened.now.0) (read_of (D.state index.old).bytes opened.now.0 opened.now.1)
+        opened.now.1 request.now.nodes (frames_at log_at request.now.bytes.now)).texts
         (K.state out.old).written (K.state out.new).written (stop_of result) }
-    ensures status { IfOk result (λ status. IsTrue (D.state index.old).tells →
-        status.0 ≡ (showing docket.now.marks (space_of opened.now.0) (read_of (D.state index.old).bytes opened.now.0 opened.now.1)
-        opened.now.1 docket.now.nodes (frames_at log_at docket.now.bytes.now)).status) }
+    ensures status { IfOk result (λ status. IsTrue (D.state index.old).is_known →
+        status.0 ≡ (showing request.now.marks (space_of opened.now.0) (read_of (D.state index.old).bytes opened.now.0 opened.now.1)
+        opened.now.1 request.now.nodes (frames_at log_at request.now.bytes.now)).status) }
     ensures statuses { IfOk result (λ status. (status.0 ≡ 0) ⊎ (status.0 ≡ 1)) }
     ensures later { (K.state out.old).faults ≤ (K.state out.new).faults }
     ensures output { IsErrOf result LogStop.Sink → Rose (K.state out.old).faults (K.state out.new).faults }
@@ -104,17 +104,17 @@ pub fn show_opened<D: Disk, K: Sink>(
     empty_cache_agrees();
     let (head, live) = opened;
     let view = View {
-        marks: docket.marks,
+        marks: request.marks,
         space: space_of(head),
         live: *live,
-        nodes: docket.nodes,
+        nodes: request.nodes,
     };
     let Ok(kept) = Kept::new(alloc, KEPT_NODES) else {
         return Err(LogStop::Memory);
     };
     let pages = DiskPages::new(index, head.dim, live.pages);
     let mut pages = Cached::from_parts(pages, kept);
-    let shown = show_bytes(alloc, &view, &mut pages, docket.bytes, out);
+    let shown = show_bytes(alloc, &view, &mut pages, request.bytes, out);
     let _index = pages.into_inner().disk;
     shown
 }

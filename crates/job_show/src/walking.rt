@@ -63,7 +63,7 @@ fn node_told<P: Pages>(
 ) -> Result<Option<SharedNode>, LogStop>
     ensures same { HoldsSame (P.shelf pages.old) (P.shelf pages.new) }
     ensures keeps { P.keeps pages.old pages.new }
-    ensures node { IfOk result (λ found. IsTrue (P.shelf pages.old).tells → found ≡ node_told (P.shelf pages.old).read page told.now) }
+    ensures node { IfOk result (λ found. IsTrue (P.shelf pages.old).is_known → found ≡ node_told (P.shelf pages.old).read page told.now) }
     ensures long { IfOk result (λ found. IfSome found (λ node. length told.now.marks ≡ entry_count node)) }
     ensures disk { IsErrOf result LogStop.Disk → Rose (P.shelf pages.old).faults (P.shelf pages.new).faults }
     ensures not_sink { IsErrOf result LogStop.Sink → ⊥ }
@@ -98,7 +98,7 @@ fn show_record<P: Pages>(
     requires small { AreSmall (with_marks told.now.marks walk.old.counts) }
     ensures same { HoldsSame (P.shelf pages.old) (P.shelf pages.new) }
     ensures keeps { P.keeps pages.old pages.new }
-    ensures shown { OnOk result (IsTrue (P.shelf pages.old).tells → (rs : List Record) →
+    ensures shown { OnOk result (IsTrue (P.shelf pages.old).is_known → (rs : List Record) →
         shown_then walk.old (shown (search_by gauge.entry) (P.shelf pages.old).read (reverse walk.old.stack.items) (told.now ∷ rs))
         ≡ shown_then walk.new (shown (search_by gauge.entry) (P.shelf pages.old).read (reverse walk.new.stack.items) rs)) }
     ensures depths { OnOk result ((depth : ℕ) → AreUpTo depth (reverse walk.old.stack.items) →
@@ -132,9 +132,9 @@ pub fn show_records<P: Pages>(
     requires marks { AllByRecursion (λ r. length r.marks ≤ 32) records.now }
     ensures same { HoldsSame (P.shelf pages.old) (P.shelf pages.new) }
     ensures keeps { P.keeps pages.old pages.new }
-    ensures lines { IfOk result (λ walk. IsTrue (P.shelf pages.old).tells → walk.lines.items ≡
+    ensures lines { IfOk result (λ walk. IsTrue (P.shelf pages.old).is_known → walk.lines.items ≡
         (shown (search_by gauge.entry) (P.shelf pages.old).read (root_coming root ∷ []) records.now).lines) }
-    ensures counts { IfOk result (λ walk. IsTrue (P.shelf pages.old).tells → walk.counts ≡
+    ensures counts { IfOk result (λ walk. IsTrue (P.shelf pages.old).is_known → walk.counts ≡
         (shown (search_by gauge.entry) (P.shelf pages.old).read (root_coming root ∷ []) records.now).counts) }
     ensures few { IfOk result (λ walk. walk.counts.fars + walk.counts.nears < 2 ^ 64) }
     ensures disk { IsErrOf result LogStop.Disk → Rose (P.shelf pages.old).faults (P.shelf pages.new).faults }

@@ -5,7 +5,7 @@ use Rattle.page_store.specs.Reading.{Read}
 use Rattle.page_store.specs.Shelf.{Shelf}
 use Rattle.log_model.specs.declared.logs.JoinLog.{JoinLog}
 use Rattle.job_files.specs.declared.logs.stop.LogStop.{LogStop}
-use Rattle.job_files.specs.Logs.Sayings.{are_sound}
+use Rattle.job_files.specs.Logs.JobReports.{are_sound}
 use Rattle.job_files.specs.Logs.Jobs.{Puts}
 use Rattle.job_show.proofs.Published.{HasPut, one_more, then_put, stopped_put}
 use Rattle.job_show_joins.specs.declared.view.JoinView.{JoinView}

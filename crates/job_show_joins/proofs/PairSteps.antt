@@ -83,13 +83,13 @@ then_shown j walk left right rs = shown_then walk (shown j left right (reverse w
 module _ (j : JoinSearch) (l lm r rm : Shelf) (same : HoldBoth l lm r rm) (records : List JoinRecord) (i : ℕ) (told : JoinRecord) (low : i < length records) (is : told ≡ get_or records i told) (whole : PairsShown) where
   -- one record further
   pub way_next : (walk walk2 : PairWalk)
-      → (IsTrue lm.tells → IsTrue rm.tells → (rs : List JoinRecord) → then_shown j walk lm.read rm.read (told ∷ rs) ≡ then_shown j walk2 lm.read rm.read rs)
-      → (IsTrue l.tells → IsTrue r.tells → then_shown j walk l.read r.read (drop i records) ≡ whole)
-      → IsTrue l.tells → IsTrue r.tells → then_shown j walk2 l.read r.read (drop (i + 1) records) ≡ whole
+      → (IsTrue lm.is_known → IsTrue rm.is_known → (rs : List JoinRecord) → then_shown j walk lm.read rm.read (told ∷ rs) ≡ then_shown j walk2 lm.read rm.read rs)
+      → (IsTrue l.is_known → IsTrue r.is_known → then_shown j walk l.read r.read (drop i records) ≡ whole)
+      → IsTrue l.is_known → IsTrue r.is_known → then_shown j walk2 l.read r.read (drop (i + 1) records) ≡ whole
   way_next walk walk2 step so_far t u =
       ap (λ (read : Read). then_shown j walk2 read r.read (drop (i + 1) records)) (sym same.left.read)
       ∙ ap (λ (read : Read). then_shown j walk2 lm.read read (drop (i + 1) records)) (sym same.right.read)
-      ∙ sym (step (same.left.tells ∙ t) (same.right.tells ∙ u) (drop (i + 1) records))
+      ∙ sym (step (same.left.is_known ∙ t) (same.right.is_known ∙ u) (drop (i + 1) records))
       ∙ ap (λ (read : Read). then_shown j walk read rm.read (told ∷ drop (i + 1) records)) same.left.read
       ∙ ap (λ (read : Read). then_shown j walk l.read read (told ∷ drop (i + 1) records)) same.right.read
       ∙ ap (λ (rs : List JoinRecord). then_shown j walk l.read r.read rs) (ap (λ (x : JoinRecord). x ∷ drop (i + 1) records) is ∙ sym (drop_more records i told low))

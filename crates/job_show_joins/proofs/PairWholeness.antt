@@ -52,10 +52,10 @@ told_sound left right n r node there side page long =
     let names_page : (r.page == page_of (opened n)) ≡ true = grind (arith, nat_tests) in
     let of : is_of n r ≡ true = ap (λ (b : Bool). b && (r.page == page_of (opened n))) names_side ∙ names_page in
     let ok : read_of left right (opens_right n) (page_of (opened n)) ≡ Ok node = side_ok left right (opens_right n) (page_of (opened n)) node there in
-    let fits : (length r.marks == entry_count node) ≡ true = grind (arith, nat_tests) in
+    let is_point : (length r.marks == entry_count node) ≡ true = grind (arith, nat_tests) in
     ap (λ (b : Bool). if b then node_marked r.marks (read_of left right (opens_right n) (page_of (opened n))) else None) of
     ∙ ap (λ (o : Result Node PageFault). node_marked r.marks o) ok
-    ∙ ap (λ (b : Bool). if b then Some node else None) fits
+    ∙ ap (λ (b : Bool). if b then Some node else None) is_point
 
 need_map : (depth : ℕ) (needs : List JoinNeed) → map (λ c. c.need) (map (coming_at depth) needs) ≡ needs
 need_map depth [] = refl

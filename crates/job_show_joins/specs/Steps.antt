@@ -8,7 +8,7 @@ use Rattle.log_model.specs.JoinSteps.{search_within}
 use Rattle.log_verify.specs.JoinJudged.{join_fault}
 use Rattle.log_verify.specs.declared.faults.JoinVerdict.{JoinVerdict}
 use Rattle.prune_log.specs.declared.fault.LogFault.{LogFault}
-use Rattle.job_files.specs.Logs.Sayings.{Saying}
+use Rattle.job_files.specs.Logs.JobReports.{JobReport}
 use Rattle.job_show.specs.Steps.{space_in, together}
 use Rattle.job_show_joins.specs.declared.entries.PairSearch.{PairSearch}
 use Rattle.job_show_joins.specs.declared.shown.PairComing.{PairComing}
@@ -55,5 +55,5 @@ abbrev pub texts_by : JoinView → Read → Read → ℕ → List JoinLog → Li
 texts_by view left right i logs = frame_texts view.marks (space_in view.space) left right view.left view.right view.nodes i logs
 
 -- what is said of bytes that were read as logs, or that have a fault
-abbrev pub said_by : JoinView → Read → Read → Result (List JoinLog) LogFault → Saying
+abbrev pub said_by : JoinView → Read → Read → Result (List JoinLog) LogFault → JobReport
 said_by view left right logs = showing view.marks (space_in view.space) left right view.left view.right view.nodes logs

@@ -2,11 +2,11 @@
 ghost use Rattle.std.specs.Prelude.{◌≡◌, ◌⊎◌, ◌≤◌, ◌∷◌, [], All, IsTrue, IfOk, IsErrOf};
 ghost use Rattle.std.specs.Option.{is_none};
 ghost use Rattle.outside_io.specs.Causes.{Rose};
-ghost use Rattle.log_model.specs.Grammar.{IsLawfulJoinLog};
+ghost use Rattle.log_model.specs.Grammar.{IsValidJoinLog};
 ghost use Rattle.log_verify.specs.JoinJudged.{names};
 ghost use Rattle.prune_log.specs.Reading.{join_log_at, frames_at};
 ghost use Rattle.job_files.specs.Logs.Jobs.{Puts, stop_of};
-ghost use Rattle.job_files.specs.Logs.Sayings.{are_sound};
+ghost use Rattle.job_files.specs.Logs.JobReports.{are_sound};
 ghost use Rattle.job_show.specs.Steps.{space_in};
 ghost use Rattle.job_show_joins.specs.Frames.{head_texts, shown_of};
 ghost use Rattle.job_join.specs.Both.{HoldBoth, OneRose};
@@ -42,11 +42,11 @@ fn show_walk<P: Pages, Q: Pages>(
     right: &mut Q,
     log: &JoinLog,
 ) -> Result<PairWalk, LogStop>
-    requires { IsLawfulJoinLog log.now }
+    requires { IsValidJoinLog log.now }
     ensures same { HoldBoth (P.shelf left.old) (P.shelf left.new) (Q.shelf right.old) (Q.shelf right.new) }
     ensures left_keeps { P.keeps left.old left.new }
     ensures right_keeps { Q.keeps right.old right.new }
-    ensures shown { IfOk result (λ walk. IsTrue (P.shelf left.old).tells → IsTrue (Q.shelf right.old).tells → walk_shown walk ≡
+    ensures shown { IfOk result (λ walk. IsTrue (P.shelf left.old).is_known → IsTrue (Q.shelf right.old).is_known → walk_shown walk ≡
         shown_of (space_in view.now.space) (P.shelf left.old).read (Q.shelf right.old).read view.now.left view.now.right log.now) }
     ensures disk { IsErrOf result LogStop.Disk → OneRose (P.shelf left.old) (P.shelf left.new) (Q.shelf right.old) (Q.shelf right.new) }
     ensures not_sink { IsErrOf result LogStop.Sink → ⊥ }
@@ -78,14 +78,14 @@ fn show_frame<P: Pages, Q: Pages, K: Sink>(
     log: JoinLog,
     out: &mut K,
 ) -> Result<bool, LogStop>
-    requires { IsLawfulJoinLog log }
+    requires { IsValidJoinLog log }
     ensures same { HoldBoth (P.shelf left.old) (P.shelf left.new) (Q.shelf right.old) (Q.shelf right.new) }
     ensures left_keeps { P.keeps left.old left.new }
     ensures right_keeps { Q.keeps right.old right.new }
-    ensures puts { IsTrue (P.shelf left.old).tells → IsTrue (Q.shelf right.old).tells →
+    ensures puts { IsTrue (P.shelf left.old).is_known → IsTrue (Q.shelf right.old).is_known →
         Puts (text_by view.now (P.shelf left.old).read (Q.shelf right.old).read frame log ∷ [])
         (K.state out.old).written (K.state out.new).written (stop_of result) }
-    ensures sound { IfOk result (λ sound. IsTrue (P.shelf left.old).tells → IsTrue (Q.shelf right.old).tells →
+    ensures sound { IfOk result (λ sound. IsTrue (P.shelf left.old).is_known → IsTrue (Q.shelf right.old).is_known →
         sound ≡ is_none (fault_by view.now (P.shelf left.old).read (Q.shelf right.old).read log)) }
     ensures later { (K.state out.old).faults ≤ (K.state out.new).faults }
     ensures output { IsErrOf result LogStop.Sink → Rose (K.state out.old).faults (K.state out.new).faults }
@@ -116,14 +116,14 @@ fn show_frames<P: Pages, Q: Pages, K: Sink>(
     logs: Vec<JoinLog>,
     out: &mut K,
 ) -> Result<bool, LogStop>
-    requires { All IsLawfulJoinLog logs.items }
+    requires { All IsValidJoinLog logs.items }
     ensures same { HoldBoth (P.shelf left.old) (P.shelf left.new) (Q.shelf right.old) (Q.shelf right.new) }
     ensures left_keeps { P.keeps left.old left.new }
     ensures right_keeps { Q.keeps right.old right.new }
-    ensures puts { IsTrue (P.shelf left.old).tells → IsTrue (Q.shelf right.old).tells →
+    ensures puts { IsTrue (P.shelf left.old).is_known → IsTrue (Q.shelf right.old).is_known →
         Puts (texts_by view.now (P.shelf left.old).read (Q.shelf right.old).read 0 logs.items)
         (K.state out.old).written (K.state out.new).written (stop_of result) }
-    ensures sound { IfOk result (λ sound. IsTrue (P.shelf left.old).tells → IsTrue (Q.shelf right.old).tells →
+    ensures sound { IfOk result (λ sound. IsTrue (P.shelf left.old).is_known → IsTrue (Q.shelf right.old).is_known →
         sound ≡ are_sound (fault_by view.now (P.shelf left.old).read (Q.shelf right.old).read) logs.items) }
     ensures later { (K.state out.old).faults ≤ (K.state out.new).faults }
     ensures output { IsErrOf result LogStop.Sink → Rose (K.state out.old).faults (K.state out.new).faults }
@@ -165,14 +165,14 @@ fn show_all<P: Pages, Q: Pages, K: Sink>(
     logs: Vec<JoinLog>,
     out: &mut K,
 ) -> Result<bool, LogStop>
-    requires { All IsLawfulJoinLog logs.items }
+    requires { All IsValidJoinLog logs.items }
     ensures same { HoldBoth (P.shelf left.old) (P.shelf left.new) (Q.shelf right.old) (Q.shelf right.new) }
     ensures left_keeps { P.keeps left.old left.new }
     ensures right_keeps { Q.keeps right.old right.new }
-    ensures puts { IsTrue (P.shelf left.old).tells → IsTrue (Q.shelf right.old).tells →
+    ensures puts { IsTrue (P.shelf left.old).is_known → IsTrue (Q.shelf right.old).is_known →
         Puts (said_by view.now (P.shelf left.old).read (Q.shelf right.old).read (Ok logs.items)).texts
         (K.state out.old).written (K.state out.new).written (stop_of result) }
-    ensures sound { IfOk result (λ sound. IsTrue (P.shelf left.old).tells → IsTrue (Q.shelf right.old).tells →
+    ensures sound { IfOk result (λ sound. IsTrue (P.shelf left.old).is_known → IsTrue (Q.shelf right.old).is_known →
         sound ≡ are_sound (fault_by view.now (P.shelf left.old).read (Q.shelf right.old).read) logs.items) }
     ensures later { (K.state out.old).faults ≤ (K.state out.new).faults }
     ensures output { IsErrOf result LogStop.Sink → Rose (K.state out.old).faults (K.state out.new).faults }
@@ -197,10 +197,10 @@ pub fn show_bytes<P: Pages, Q: Pages, K: Sink>(
     ensures same { HoldBoth (P.shelf left.old) (P.shelf left.new) (Q.shelf right.old) (Q.shelf right.new) }
     ensures left_keeps { P.keeps left.old left.new }
     ensures right_keeps { Q.keeps right.old right.new }
-    ensures puts { IsTrue (P.shelf left.old).tells → IsTrue (Q.shelf right.old).tells →
+    ensures puts { IsTrue (P.shelf left.old).is_known → IsTrue (Q.shelf right.old).is_known →
         Puts (said_by view.now (P.shelf left.old).read (Q.shelf right.old).read (frames_at join_log_at bytes.now)).texts
         (K.state out.old).written (K.state out.new).written (stop_of result) }
-    ensures status { IfOk result (λ status. IsTrue (P.shelf left.old).tells → IsTrue (Q.shelf right.old).tells →
+    ensures status { IfOk result (λ status. IsTrue (P.shelf left.old).is_known → IsTrue (Q.shelf right.old).is_known →
         status.0 ≡ (said_by view.now (P.shelf left.old).read (Q.shelf right.old).read (frames_at join_log_at bytes.now)).status) }
     ensures statuses { IfOk result (λ status. (status.0 ≡ 0) ⊎ (status.0 ≡ 1)) }
     ensures later { (K.state out.old).faults ≤ (K.state out.new).faults }

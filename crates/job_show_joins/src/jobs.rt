@@ -4,7 +4,7 @@ ghost use Rattle.outside_io.specs.Causes.{Rose};
 ghost use Rattle.job_files.specs.Logs.Jobs.{IsJudgeStatus, IsLogStatus};
 ghost use Rattle.job_show_joins.specs.Jobs.{ShowsBytes, ShowsLogs};
 
-use crate::opened::{Docket, count_both, show_trees};
+use crate::opened::{Request, count_both, show_trees};
 use disk_model::Disk;
 use job_files::logs::{end_stopped, read_logs};
 use job_join::open_both;
@@ -35,12 +35,12 @@ fn show_indexes<D: Disk, E: Disk, K: Sink>(
         Ok(nodes) => nodes,
         Err(why) => return end_stopped(why, out),
     };
-    let docket = Docket {
+    let request = Request {
         marks,
         nodes,
         bytes,
     };
-    match show_trees(alloc, &docket, index, other, &trees, out) {
+    match show_trees(alloc, &request, index, other, &trees, out) {
         Ok(status) => status,
         Err(why) => end_stopped(why, out),
     }

@@ -4,7 +4,7 @@ ghost use Rattle.outside_io.specs.Causes.{Rose};
 ghost use Rattle.disk_model.specs.Disk.{IsUnchanged};
 ghost use Rattle.job_files.specs.Logs.Jobs.{Puts, stop_of};
 ghost use Rattle.job_join.specs.Trees.{is_one_space, read_of, tree_of};
-ghost use Rattle.job_join.specs.Jobs.{AreLawful, EitherRose};
+ghost use Rattle.job_join.specs.Jobs.{AreValid, EitherRose};
 ghost use Rattle.job_show.specs.Jobs.{AreNodes};
 ghost use Rattle.job_show_joins.specs.Jobs.{said_on, showing_trees};
 
@@ -23,7 +23,7 @@ use std::alloc::Global;
 
 // The bytes of the logs, and how they are shown.
 #[derive(Clone, Copy)]
-pub struct Docket<'a> {
+pub struct Request<'a> {
     // What is shown of the marks.
     pub marks: Marks,
     // The numbers of the two trees' nodes, or `None` where a tree can't be walked.
@@ -41,12 +41,13 @@ pub fn count_both<D: Disk, E: Disk>(
     other: &mut E,
     trees: &Trees,
 ) -> Result<(Option<u32>, Option<u32>), LogStop>
-    requires { AreLawful trees.now }
+    requires { AreValid trees.now }
     ensures same { IsUnchanged (D.state index.old) (D.state index.new) }
     ensures other_same { IsUnchanged (E.state other.old) (E.state other.new) }
-    ensures nodes { IfOk result (λ nodes. IsTrue (D.state index.old).tells → is_one_space trees.now.left.0 trees.now.right.0 ≡ true →
+    ensures nodes { IfOk result (λ nodes. IsTrue (D.state index.old).is_known → is_one_space trees.now.left.0 trees.now.right.0 ≡ true →
         AreNodes (read_of (tree_of (D.state index.old) trees.now.left)) trees.now.left.1 nodes.0) }
-    ensures other_nodes { IfOk result (λ nodes. IsTrue (E.state other.old).tells → is_one_space trees.now.left.0 trees.now.right.0 ≡ true →
+    ensures other_nodes { IfOk result (λ nodes. IsTrue (E.state other.old).is_known → is_one_space trees.now.left.0 trees.now.right.0 ≡
+        true →
         AreNodes (read_of (tree_of (E.state other.old) trees.now.right)) trees.now.right.1 nodes.1) }
     ensures later { (D.state index.old).faults ≤ (D.state index.new).faults }
     ensures other_later { (E.state other.old).faults ≤ (E.state other.new).faults }
@@ -63,27 +64,27 @@ pub fn count_both<D: Disk, E: Disk>(
 }
 
 // Writes what is shown of the logs of two opened files of one space.
-// Clauses: what is asked of the caller (`lawful`, `one_space`); the answer (`status`); which statuses come (`statuses`); what is written
+// Clauses: what is asked of the caller (`valid`, `one_space`); the answer (`status`); which statuses come (`statuses`); what is written
 // (`puts`); what stays (`same`, `other_same`); the cause of an error (`output`, `disk`); faults of the devices (`later`).
 fn show_opened<D: Disk, E: Disk, K: Sink>(
     alloc: Global,
-    docket: &Docket<'_>,
+    request: &Request<'_>,
     index: &mut D,
     other: &mut E,
     trees: &Trees,
     out: &mut K,
 ) -> Result<Status, LogStop>
-    requires lawful { AreLawful trees.now }
+    requires valid { AreValid trees.now }
     requires one_space { is_one_space trees.now.left.0 trees.now.right.0 ≡ true }
     ensures same { IsUnchanged (D.state index.old) (D.state index.new) }
     ensures other_same { IsUnchanged (E.state other.old) (E.state other.new) }
-    ensures puts { IsTrue (D.state index.old).tells → IsTrue (E.state other.old).tells →
-        Puts (showing_trees docket.now.marks (tree_of (D.state index.old) trees.now.left) (tree_of (E.state other.old) trees.now.right)
-        docket.now.nodes docket.now.bytes.now).texts
+    ensures puts { IsTrue (D.state index.old).is_known → IsTrue (E.state other.old).is_known →
+        Puts (showing_trees request.now.marks (tree_of (D.state index.old) trees.now.left) (tree_of (E.state other.old) trees.now.right)
+        request.now.nodes request.now.bytes.now).texts
         (K.state out.old).written (K.state out.new).written (stop_of result) }
-    ensures status { IfOk result (λ status. IsTrue (D.state index.old).tells → IsTrue (E.state other.old).tells →
-        status.0 ≡ (showing_trees docket.now.marks (tree_of (D.state index.old) trees.now.left)
-        (tree_of (E.state other.old) trees.now.right) docket.now.nodes docket.now.bytes.now).status) }
+    ensures status { IfOk result (λ status. IsTrue (D.state index.old).is_known → IsTrue (E.state other.old).is_known →
+        status.0 ≡ (showing_trees request.now.marks (tree_of (D.state index.old) trees.now.left)
+        (tree_of (E.state other.old) trees.now.right) request.now.nodes request.now.bytes.now).status) }
     ensures statuses { IfOk result (λ status. (status.0 ≡ 0) ⊎ (status.0 ≡ 1)) }
     ensures later { (K.state out.old).faults ≤ (K.state out.new).faults }
     ensures output { IsErrOf result LogStop.Sink → Rose (K.state out.old).faults (K.state out.new).faults }
@@ -94,11 +95,11 @@ fn show_opened<D: Disk, E: Disk, K: Sink>(
     let (left, right) = (&trees.left, &trees.right);
     let view = JoinView {
         alloc,
-        marks: docket.marks,
+        marks: request.marks,
         space: space_of(&left.0),
         left: left.1,
         right: right.1,
-        nodes: docket.nodes,
+        nodes: request.nodes,
     };
     let (Ok(left_kept), Ok(right_kept)) = (
         Kept::new(alloc, KEPT_NODES),
@@ -110,7 +111,7 @@ fn show_opened<D: Disk, E: Disk, K: Sink>(
     let right_pages = DiskPages::new(other, right.0.dim, right.1.pages);
     let mut left_pages = Cached::from_parts(left_pages, left_kept);
     let mut right_pages = Cached::from_parts(right_pages, right_kept);
-    let shown = show_bytes(&view, &mut left_pages, &mut right_pages, docket.bytes, out);
+    let shown = show_bytes(&view, &mut left_pages, &mut right_pages, request.bytes, out);
     let _index = left_pages.into_inner().disk;
     let _other = right_pages.into_inner().disk;
     shown
@@ -121,22 +122,22 @@ fn show_opened<D: Disk, E: Disk, K: Sink>(
 // (`puts`); what stays (`same`, `other_same`); the cause of an error (`output`, `disk`); faults of the devices (`later`).
 pub fn show_trees<D: Disk, E: Disk, K: Sink>(
     alloc: Global,
-    docket: &Docket<'_>,
+    request: &Request<'_>,
     index: &mut D,
     other: &mut E,
     trees: &Trees,
     out: &mut K,
 ) -> Result<Status, LogStop>
-    requires { AreLawful trees.now }
+    requires { AreValid trees.now }
     ensures same { IsUnchanged (D.state index.old) (D.state index.new) }
     ensures other_same { IsUnchanged (E.state other.old) (E.state other.new) }
-    ensures puts { IsTrue (D.state index.old).tells → IsTrue (E.state other.old).tells →
-        Puts (said_on docket.now.marks (tree_of (D.state index.old) trees.now.left) (tree_of (E.state other.old) trees.now.right)
-        docket.now.nodes docket.now.bytes.now).texts
+    ensures puts { IsTrue (D.state index.old).is_known → IsTrue (E.state other.old).is_known →
+        Puts (said_on request.now.marks (tree_of (D.state index.old) trees.now.left) (tree_of (E.state other.old) trees.now.right)
+        request.now.nodes request.now.bytes.now).texts
         (K.state out.old).written (K.state out.new).written (stop_of result) }
-    ensures status { IfOk result (λ status. IsTrue (D.state index.old).tells → IsTrue (E.state other.old).tells →
-        status.0 ≡ (said_on docket.now.marks (tree_of (D.state index.old) trees.now.left)
-        (tree_of (E.state other.old) trees.now.right) docket.now.nodes docket.now.bytes.now).status) }
+    ensures status { IfOk result (λ status. IsTrue (D.state index.old).is_known → IsTrue (E.state other.old).is_known →
+        status.0 ≡ (said_on request.now.marks (tree_of (D.state index.old) trees.now.left)
+        (tree_of (E.state other.old) trees.now.right) request.now.nodes request.now.bytes.now).status) }
     ensures statuses { IfOk result (λ status. (status.0 ≡ 0) ⊎ (status.0 ≡ 1)) }
     ensures later { (K.state out.old).faults ≤ (K.state out.new).faults }
     ensures output { IsErrOf result LogStop.Sink → Rose (K.state out.old).faults (K.state out.new).faults }
@@ -147,5 +148,5 @@ pub fn show_trees<D: Disk, E: Disk, K: Sink>(
         put(out, REJECTED_SPACES)?;
         return Ok(Status(1));
     }
-    show_opened(alloc, docket, index, other, trees, out)
+    show_opened(alloc, request, index, other, trees, out)
 }

@@ -81,7 +81,8 @@ fn node_marked<P: Pages>(
 ) -> Result<Option<SharedNode>, LogStop>
     ensures same { HoldsSame (P.shelf pages.old) (P.shelf pages.new) }
     ensures keeps { P.keeps pages.old pages.new }
-    ensures node { IfOk result (λ found. IsTrue (P.shelf pages.old).tells → found ≡ node_marked marks.now ((P.shelf pages.old).read page)) }
+    ensures node { IfOk result (λ found. IsTrue (P.shelf pages.old).is_known → found ≡
+        node_marked marks.now ((P.shelf pages.old).read page)) }
     ensures long { IfOk result (λ found. IfSome found (λ node. length marks.now ≡ entry_count node)) }
     ensures disk { IsErrOf result LogStop.Disk → Rose (P.shelf pages.old).faults (P.shelf pages.new).faults }
     ensures not_sink { IsErrOf result LogStop.Sink → ⊥ }
@@ -110,7 +111,7 @@ fn node_told<P: Pages, Q: Pages>(
     ensures same { HoldBoth (P.shelf left.old) (P.shelf left.new) (Q.shelf right.old) (Q.shelf right.new) }
     ensures left_keeps { P.keeps left.old left.new }
     ensures right_keeps { Q.keeps right.old right.new }
-    ensures node { IfOk result (λ found. IsTrue (P.shelf left.old).tells → IsTrue (Q.shelf right.old).tells →
+    ensures node { IfOk result (λ found. IsTrue (P.shelf left.old).is_known → IsTrue (Q.shelf right.old).is_known →
         found ≡ node_told (P.shelf left.old).read (Q.shelf right.old).read need.now told.now) }
     ensures long { IfOk result (λ found. IfSome found (λ node. length told.now.marks ≡ entry_count node)) }
     ensures disk { IsErrOf result LogStop.Disk → OneRose (P.shelf left.old) (P.shelf left.new) (Q.shelf right.old) (Q.shelf right.new) }
@@ -145,7 +146,7 @@ fn show_record<P: Pages, Q: Pages>(
     ensures same { HoldBoth (P.shelf left.old) (P.shelf left.new) (Q.shelf right.old) (Q.shelf right.new) }
     ensures left_keeps { P.keeps left.old left.new }
     ensures right_keeps { Q.keeps right.old right.new }
-    ensures shown { OnOk result (IsTrue (P.shelf left.old).tells → IsTrue (Q.shelf right.old).tells → (rs : List JoinRecord) →
+    ensures shown { OnOk result (IsTrue (P.shelf left.old).is_known → IsTrue (Q.shelf right.old).is_known → (rs : List JoinRecord) →
         shown_then walk.old (shown (search_by search) (P.shelf left.old).read (Q.shelf right.old).read
         (reverse walk.old.stack.items) (told.now ∷ rs))
         ≡ shown_then walk.new (shown (search_by search) (P.shelf left.old).read (Q.shelf right.old).read
@@ -191,7 +192,7 @@ pub fn show_records<P: Pages, Q: Pages>(
     ensures same { HoldBoth (P.shelf left.old) (P.shelf left.new) (Q.shelf right.old) (Q.shelf right.new) }
     ensures left_keeps { P.keeps left.old left.new }
     ensures right_keeps { Q.keeps right.old right.new }
-    ensures shown { IfOk result (λ walk. IsTrue (P.shelf left.old).tells → IsTrue (Q.shelf right.old).tells →
+    ensures shown { IfOk result (λ walk. IsTrue (P.shelf left.old).is_known → IsTrue (Q.shelf right.old).is_known →
         walk_shown walk ≡ shown (search_by search) (P.shelf left.old).read (Q.shelf right.old).read
         (reverse begun.stack.items) records.now) }
     ensures disk { IsErrOf result LogStop.Disk → OneRose (P.shelf left.old) (P.shelf left.new) (Q.shelf right.old) (Q.shelf right.new) }

@@ -9,19 +9,19 @@ use Rattle.job_files.specs.Shapes.{AreLinesOf}
 use Rattle.job_stats.specs.Jobs.{TellsStats, TellsTree}
 
 pub stats_before : (d0 d1 : DiskState) (head : Head) (live : Live) (lines : List ShapeLine) (Put : List ℕ → Type 0)
-    → (IsTrue d0.tells → OpensTo d0.bytes head live) → head.version ≡ 2 → IsUnchanged d0 d1
-    → (IsTrue d1.tells → AreLinesOf head live d1.bytes lines) → TellsTree head live lines Put → TellsStats d0 Put
+    → (IsTrue d0.is_known → OpensTo d0.bytes head live) → head.version ≡ 2 → IsUnchanged d0 d1
+    → (IsTrue d1.is_known → AreLinesOf head live d1.bytes lines) → TellsTree head live lines Put → TellsStats d0 Put
 stats_before d0 d1 head live lines Put opens version same lines_are told = record {
   head = head;
   live = live;
   nodes = length lines;
   levels = told.levels;
   put = told.put;
-  are = λ tells. record {
-    opens = opens tells;
+  are = λ is_known. record {
+    opens = opens is_known;
     version = version;
     lines = lines;
-    lines_are = rw same.same_bytes at (lines_are (subst IsTrue (sym same.same_tells) tells));
+    lines_are = rw same.same_bytes at (lines_are (subst IsTrue (sym same.same_known) is_known));
     nodes_are = refl;
     levels_are = told.levels_are;
   };

@@ -75,7 +75,7 @@ pub record TellsStats (disk : DiskState) (Put : List ℕ → Type 0) : Type 0 wh
   pub nodes : ℕ
   pub levels : List LevelNumbers
   pub put : Put (stats_text head live nodes levels)
-  pub are : IsTrue disk.tells → AreStatsOf disk.bytes head live nodes levels
+  pub are : IsTrue disk.is_known → AreStatsOf disk.bytes head live nodes levels
 
 -- the lines of a tree with the nodes `lines`, which `Put` says were put whole or in front
 pub record TellsTree (head : Head) (live : Live) (lines : List ShapeLine) (Put : List ℕ → Type 0) : Type 0 where
@@ -90,8 +90,8 @@ pub record Stats (disk0 disk1 : DiskState) (out0 out1 : SinkState) (status : ℕ
   -- a front of the lines
   pub part : status ≡ 4 → TellsStats disk0 (AppendsPrefix out0.written out1.written)
   pub disk : status ≡ 5 → Rose disk0.faults disk1.faults × Tells out0 out1 (codes "fault disk\n")
-  pub not_index : status ≡ 6 → (name : List ℕ) × Tells out0 out1 (not_index_text name) × (IsTrue disk0.tells → IsNoIndex disk0.bytes name)
+  pub not_index : status ≡ 6 → (name : List ℕ) × Tells out0 out1 (not_index_text name) × (IsTrue disk0.is_known → IsNoIndex disk0.bytes name)
   pub memory : status ≡ 8 → Tells out0 out1 (codes "fault memory\n")
-  pub damaged : status ≡ 9 → (fault : PageFault) × Tells out0 out1 (damaged_text fault) × (IsTrue disk0.tells → IsDamaged disk0.bytes fault)
+  pub damaged : status ≡ 9 → (fault : PageFault) × Tells out0 out1 (damaged_text fault) × (IsTrue disk0.is_known → IsDamaged disk0.bytes fault)
   -- a sound file gives neither status 6 nor status 9
-  pub sound : IsTrue disk0.tells → (head : Head) (live : Live) → IsSound head live disk0.bytes → (status ≢ 6) × (status ≢ 9)
+  pub sound : IsTrue disk0.is_known → (head : Head) (live : Live) → IsSound head live disk0.bytes → (status ≢ 6) × (status ≢ 9)

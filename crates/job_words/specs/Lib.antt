@@ -8,4 +8,4 @@ pub mod Found
 pub mod Rows
 pub mod Jobs
 pub mod Files
-pub mod Lawful
+pub mod Valid

@@ -2,7 +2,7 @@ ghost use Rattle.std.specs.Prelude.{◌≡◌, IfOk, IfSome};
 ghost use Rattle.std.specs.Option.{option_map};
 ghost use Rattle.job_words.specs.Found.{given_in};
 ghost use Rattle.job_words.specs.Jobs.{AnswersJob, job_in, job_named, job_of, texts_in};
-ghost use Rattle.job_words.specs.Lawful.{IsLawful};
+ghost use Rattle.job_words.specs.Valid.{IsValid};
 ghost use Rattle.job_words.specs.Words.{texts_of};
 
 use crate::command_line::command_line;
@@ -16,7 +16,7 @@ use std::alloc::Global;
 // Returns the job of a command, where its row accepts what is given.
 fn job_named<'a>(matches: &ArgMatches<'a>, command: &str) -> Option<Job<&'a str>>
     ensures job { option_map texts_in result ≡ job_named (given_in matches.now) command.now }
-    ensures lawful { IfSome result IsLawful }
+    ensures valid { IfSome result IsValid }
 {
     match command {
         "scan" => rows::scan(matches),
@@ -42,7 +42,7 @@ fn job_named<'a>(matches: &ArgMatches<'a>, command: &str) -> Option<Job<&'a str>
 // Returns the job of what is given.
 fn job_from<'a>(matches: &ArgMatches<'a>) -> Option<Job<&'a str>>
     ensures job { option_map texts_in result ≡ job_in (given_in matches.now) }
-    ensures lawful { IfSome result IsLawful }
+    ensures valid { IfSome result IsValid }
 {
     job_named(matches, value(matches, "COMMAND")?)
 }
@@ -52,7 +52,7 @@ fn job_from<'a>(matches: &ArgMatches<'a>) -> Option<Job<&'a str>>
 /// [`JobFault::Usage`] comes only where the words are no job. For such words no other result comes but [`JobFault::Memory`].
 pub fn read_job(alloc: Global, words: &[String]) -> Result<Job<&str>, JobFault>
     ensures job { AnswersJob (job_of (texts_of words.now)) result }
-    ensures lawful { IfOk result IsLawful }
+    ensures valid { IfOk result IsValid }
 {
     let Ok(command) = command_line(alloc) else {
         return Err(JobFault::Memory);

@@ -1,7 +1,7 @@
 ghost use Rattle.std.specs.Prelude.{◌≡◌, IfSome};
 ghost use Rattle.std.specs.Option.{option_map};
 ghost use Rattle.job_words.specs.Found.{given_in};
-ghost use Rattle.job_words.specs.Lawful.{IsLawful};
+ghost use Rattle.job_words.specs.Valid.{IsValid};
 ghost use Rattle.job_words.specs.Jobs.{proof_in, texts_in};
 ghost use Rattle.job_words.specs.Rows.{audit_in, batch_in, carry_in, check_in, create_in, dump_in, gen_in, join_in, migrate_in, prove_in, scan_in, seal_in, session_in, shape_in, show_in, stats_in, verify_in};
 
@@ -53,7 +53,7 @@ pub const PROVE: [&str; 2] = ["log", "root"];
 /// Returns the job of `scan`, where its row accepts what is given.
 pub fn scan<'a>(matches: &ArgMatches<'a>) -> Option<Job<&'a str>>
     ensures job { option_map texts_in result ≡ scan_in (given_in matches.now) }
-    ensures lawful { IfSome result IsLawful }
+    ensures valid { IfSome result IsValid }
 {
     if has_other(matches, &SCAN) {
         return None;
@@ -68,7 +68,7 @@ pub fn scan<'a>(matches: &ArgMatches<'a>) -> Option<Job<&'a str>>
 /// Returns the job of `create`, where its row accepts what is given.
 pub fn create<'a>(matches: &ArgMatches<'a>) -> Option<Job<&'a str>>
     ensures job { option_map texts_in result ≡ create_in (given_in matches.now) }
-    ensures lawful { IfSome result IsLawful }
+    ensures valid { IfSome result IsValid }
 {
     if has_other(matches, &CREATE) {
         return None;
@@ -84,7 +84,7 @@ pub fn create<'a>(matches: &ArgMatches<'a>) -> Option<Job<&'a str>>
 /// Returns the job of `session`, where its row accepts what is given.
 pub fn session<'a>(matches: &ArgMatches<'a>) -> Option<Job<&'a str>>
     ensures job { option_map texts_in result ≡ session_in (given_in matches.now) }
-    ensures lawful { IfSome result IsLawful }
+    ensures valid { IfSome result IsValid }
 {
     if has_other(matches, &SESSION) {
         return None;
@@ -100,7 +100,7 @@ pub fn session<'a>(matches: &ArgMatches<'a>) -> Option<Job<&'a str>>
 /// Returns the job of `shape`, where its row accepts what is given.
 pub fn shape<'a>(matches: &ArgMatches<'a>) -> Option<Job<&'a str>>
     ensures job { option_map texts_in result ≡ shape_in (given_in matches.now) }
-    ensures lawful { IfSome result IsLawful }
+    ensures valid { IfSome result IsValid }
 {
     if has_other(matches, &SHAPE) {
         return None;
@@ -113,7 +113,7 @@ pub fn shape<'a>(matches: &ArgMatches<'a>) -> Option<Job<&'a str>>
 /// Returns the job of `stats`, where its row accepts what is given.
 pub fn stats<'a>(matches: &ArgMatches<'a>) -> Option<Job<&'a str>>
     ensures job { option_map texts_in result ≡ stats_in (given_in matches.now) }
-    ensures lawful { IfSome result IsLawful }
+    ensures valid { IfSome result IsValid }
 {
     if has_other(matches, &STATS) {
         return None;
@@ -126,7 +126,7 @@ pub fn stats<'a>(matches: &ArgMatches<'a>) -> Option<Job<&'a str>>
 /// Returns the job of `dump`, where its row accepts what is given.
 pub fn dump<'a>(matches: &ArgMatches<'a>) -> Option<Job<&'a str>>
     ensures job { option_map texts_in result ≡ dump_in (given_in matches.now) }
-    ensures lawful { IfSome result IsLawful }
+    ensures valid { IfSome result IsValid }
 {
     if has_other(matches, &DUMP) {
         return None;
@@ -139,7 +139,7 @@ pub fn dump<'a>(matches: &ArgMatches<'a>) -> Option<Job<&'a str>>
 /// Returns the job of `show`, where its row accepts what is given.
 pub fn show<'a>(matches: &ArgMatches<'a>) -> Option<Job<&'a str>>
     ensures job { option_map texts_in result ≡ show_in (given_in matches.now) }
-    ensures lawful { IfSome result IsLawful }
+    ensures valid { IfSome result IsValid }
 {
     if has_other(matches, &SHOW) {
         return None;
@@ -155,7 +155,7 @@ pub fn show<'a>(matches: &ArgMatches<'a>) -> Option<Job<&'a str>>
 /// Returns the job of `audit`, where its row accepts what is given.
 pub fn audit<'a>(matches: &ArgMatches<'a>) -> Option<Job<&'a str>>
     ensures job { option_map texts_in result ≡ audit_in (given_in matches.now) }
-    ensures lawful { IfSome result IsLawful }
+    ensures valid { IfSome result IsValid }
 {
     if has_other(matches, &AUDIT) {
         return None;
@@ -169,7 +169,7 @@ pub fn audit<'a>(matches: &ArgMatches<'a>) -> Option<Job<&'a str>>
 /// Returns the job of `verify`, where its row accepts what is given.
 pub fn verify<'a>(matches: &ArgMatches<'a>) -> Option<Job<&'a str>>
     ensures job { option_map texts_in result ≡ verify_in (given_in matches.now) }
-    ensures lawful { IfSome result IsLawful }
+    ensures valid { IfSome result IsValid }
 {
     if has_other(matches, &VERIFY) {
         return None;
@@ -184,7 +184,7 @@ pub fn verify<'a>(matches: &ArgMatches<'a>) -> Option<Job<&'a str>>
 /// Returns the job of `check`, where its row accepts what is given.
 pub fn check<'a>(matches: &ArgMatches<'a>) -> Option<Job<&'a str>>
     ensures job { option_map texts_in result ≡ check_in (given_in matches.now) }
-    ensures lawful { IfSome result IsLawful }
+    ensures valid { IfSome result IsValid }
 {
     if has_other(matches, &CHECK) {
         return None;
@@ -199,7 +199,7 @@ pub fn check<'a>(matches: &ArgMatches<'a>) -> Option<Job<&'a str>>
 /// Returns the job of `join`, where its row accepts what is given.
 pub fn join<'a>(matches: &ArgMatches<'a>) -> Option<Job<&'a str>>
     ensures job { option_map texts_in result ≡ join_in (given_in matches.now) }
-    ensures lawful { IfSome result IsLawful }
+    ensures valid { IfSome result IsValid }
 {
     if has_other(matches, &JOIN) {
         return None;
@@ -215,7 +215,7 @@ pub fn join<'a>(matches: &ArgMatches<'a>) -> Option<Job<&'a str>>
 /// Returns the job of `gen`, where its row accepts what is given.
 pub fn generate<'a>(matches: &ArgMatches<'a>) -> Option<Job<&'a str>>
     ensures job { option_map texts_in result ≡ gen_in (given_in matches.now) }
-    ensures lawful { IfSome result IsLawful }
+    ensures valid { IfSome result IsValid }
 {
     if has_other(matches, &GEN) {
         return None;
@@ -233,7 +233,7 @@ pub fn generate<'a>(matches: &ArgMatches<'a>) -> Option<Job<&'a str>>
 /// Returns the job of `migrate`, where its row accepts what is given.
 pub fn migrate<'a>(matches: &ArgMatches<'a>) -> Option<Job<&'a str>>
     ensures job { option_map texts_in result ≡ migrate_in (given_in matches.now) }
-    ensures lawful { IfSome result IsLawful }
+    ensures valid { IfSome result IsValid }
 {
     if has_other(matches, &MIGRATE) {
         return None;
@@ -247,7 +247,7 @@ pub fn migrate<'a>(matches: &ArgMatches<'a>) -> Option<Job<&'a str>>
 /// Returns the job of `batch`, where its row accepts what is given.
 pub fn batch<'a>(matches: &ArgMatches<'a>) -> Option<Job<&'a str>>
     ensures job { option_map texts_in result ≡ batch_in (given_in matches.now) }
-    ensures lawful { IfSome result IsLawful }
+    ensures valid { IfSome result IsValid }
 {
     if has_other(matches, &BATCH) {
         return None;
@@ -263,7 +263,7 @@ pub fn batch<'a>(matches: &ArgMatches<'a>) -> Option<Job<&'a str>>
 /// Returns the job of `seal`, where its row accepts what is given.
 pub fn seal<'a>(matches: &ArgMatches<'a>) -> Option<Job<&'a str>>
     ensures job { option_map texts_in result ≡ seal_in (given_in matches.now) }
-    ensures lawful { IfSome result IsLawful }
+    ensures valid { IfSome result IsValid }
 {
     if has_other(matches, &SEAL) {
         return None;
@@ -276,7 +276,7 @@ pub fn seal<'a>(matches: &ArgMatches<'a>) -> Option<Job<&'a str>>
 // Returns the job of `proof` with INDEX, where its row accepts what is given.
 fn carry<'a>(matches: &ArgMatches<'a>) -> Option<Job<&'a str>>
     ensures job { option_map texts_in result ≡ carry_in (given_in matches.now) }
-    ensures lawful { IfSome result IsLawful }
+    ensures valid { IfSome result IsValid }
 {
     if has_other(matches, &CARRY) {
         return None;
@@ -291,7 +291,7 @@ fn carry<'a>(matches: &ArgMatches<'a>) -> Option<Job<&'a str>>
 // Returns the job of `proof` without INDEX, where its row accepts what is given.
 fn prove<'a>(matches: &ArgMatches<'a>) -> Option<Job<&'a str>>
     ensures job { option_map texts_in result ≡ prove_in (given_in matches.now) }
-    ensures lawful { IfSome result IsLawful }
+    ensures valid { IfSome result IsValid }
 {
     if has_other(matches, &PROVE) {
         return None;
@@ -305,7 +305,7 @@ fn prove<'a>(matches: &ArgMatches<'a>) -> Option<Job<&'a str>>
 /// Returns the job of `proof`, where one of its rows accepts what is given.
 pub fn proof<'a>(matches: &ArgMatches<'a>) -> Option<Job<&'a str>>
     ensures job { option_map texts_in result ≡ proof_in (given_in matches.now) }
-    ensures lawful { IfSome result IsLawful }
+    ensures valid { IfSome result IsValid }
 {
     if value(matches, "INDEX").is_some() {
         carry(matches)

@@ -3,7 +3,7 @@ ghost use Rattle.std.specs.List.{list_any};
 ghost use Rattle.std.specs.Str.{bytes_eq};
 ghost use Rattle.job_words.specs.Found.{given_in};
 ghost use Rattle.job_words.specs.Given.{is_other, has_other, number_given, dim_given, limit_given, workers_given, count_given, seed_given, radius_given, show_given, counts_only_given, space_given, generated_space_given, policies_given, digest_of, root_given, promote_or, split_or, is_lower_digit};
-ghost use Rattle.job_words.specs.Lawful.{AreWorkers, IsCount, IsGeneratedSpace, IsLawfulSpace, IsLimit};
+ghost use Rattle.job_words.specs.Valid.{AreWorkers, IsCount, IsGeneratedSpace, IsValidSpace, IsLimit};
 ghost use Rattle.job_words.specs.Names.{is_halved, is_generated};
 
 use crate::command_line::OPTIONS;
@@ -84,7 +84,7 @@ fn number_in(
 /// Returns the greatest number of objects, `--max`.
 pub fn limit_in(matches: &ArgMatches<'_>) -> Option<u32>
     ensures value { result ≡ limit_given (given_in matches.now) }
-    ensures lawful { IfSome result IsLimit }
+    ensures valid { IfSome result IsLimit }
 {
     let limit = number_in(matches, "max", 1, 16777216, Some(16777216))?;
     Some(limit as u32)
@@ -93,7 +93,7 @@ pub fn limit_in(matches: &ArgMatches<'_>) -> Option<u32>
 /// Returns the number of threads, `--workers`.
 pub fn workers_in(matches: &ArgMatches<'_>) -> Option<usize>
     ensures value { result ≡ workers_given (given_in matches.now) }
-    ensures lawful { IfSome result AreWorkers }
+    ensures valid { IfSome result AreWorkers }
 {
     let workers = number_in(matches, "workers", 1, 64, Some(1))?;
     Some(workers as usize)
@@ -102,7 +102,7 @@ pub fn workers_in(matches: &ArgMatches<'_>) -> Option<usize>
 /// Returns the number of generated objects, `--count`.
 pub fn count_in(matches: &ArgMatches<'_>) -> Option<u32>
     ensures value { result ≡ count_given (given_in matches.now) }
-    ensures lawful { IfSome result IsCount }
+    ensures valid { IfSome result IsCount }
 {
     let count = number_in(matches, "count", 1, 1048576, None)?;
     Some(count as u32)
@@ -166,7 +166,7 @@ pub fn dim_in(matches: &ArgMatches<'_>) -> Option<u8>
 /// Returns the space of `--metric` and `--dim`.
 pub fn space_in(matches: &ArgMatches<'_>) -> Option<SpaceName>
     ensures value { result ≡ space_given (given_in matches.now) }
-    ensures lawful { IfSome result IsLawfulSpace }
+    ensures valid { IfSome result IsValidSpace }
 {
     let metric = metric_named(value(matches, "metric")?)?;
     let dim = dim_in(matches)?;
@@ -186,7 +186,7 @@ fn is_generated(metric: MetricName) -> bool
 /// Returns the space of `--metric` and `--dim`, where the generator makes its points.
 pub fn generated_space_in(matches: &ArgMatches<'_>) -> Option<SpaceName>
     ensures value { result ≡ generated_space_given (given_in matches.now) }
-    ensures lawful { IfSome result IsGeneratedSpace }
+    ensures valid { IfSome result IsGeneratedSpace }
 {
     let space = space_in(matches)?;
     if !is_generated(space.metric) {

@@ -61,7 +61,7 @@ module _ (es : List LeafEntry) (count : ℕ) (ids : AreIds es count) where
       let here = object_of es id (let k = ids id in let b : 1 ≤ times id (ids_of es) = grind (arith, nat_tests) in b) in
       (here.0, here.1, here.2, (let there = (id_below here.0 here.1).1 in rw here.2 at there))
 
-  module _ (s : Space) (axioms : IsSpace s) (fit : AllByRecursion (λ e. IsTrue (s.fits e.point)) es) (q : List ℕ) (q_fits : IsTrue (s.fits q)) where
+  module _ (s : Space) (axioms : IsSpace s) (fit : AllByRecursion (λ e. IsTrue (s.is_point e.point)) es) (q : List ℕ) (q_fits : IsTrue (s.is_point q)) where
     -- the answers among the objects, in order, are the scan's within the radius
     module _ (rho r : ℕ) (is : rho ≡ min r bound) where
       abbrev pub f : Search
@@ -88,7 +88,7 @@ module _ (es : List LeafEntry) (count : ℕ) (ids : AreIds es count) where
           let low : z.id < count = (let o = answer.object in rw (length-points es 0 count) at o) in
           let here = at_id z.id low in
           let dist : z.dist ≡ s.dist here.0.point q = answer.dist ∙ ap (λ p. s.dist p q) here.3 in
-          let top = axioms.bounded here.0.point q (all_in (λ e. IsTrue (s.fits e.point)) es here.0 fit here.1) q_fits in
+          let top = axioms.bounded here.0.point q (all_in (λ e. IsTrue (s.is_point e.point)) es here.0 fit here.1) q_fits in
           let near : is_answer f here.0 ≡ true = (let w = answer.within in grind (arith, nat_tests)) in
           let same : z ≡ hit_of f here.0 = (λ i. record { id = sym here.2 i; dist = dist i }) in
           rw same (map-in (hit_of f) (filter (is_answer f) es) here.0 (filter-in (is_answer f) es here.0 here.1 near))
@@ -161,8 +161,8 @@ module _ (es : List LeafEntry) (count : ℕ) (ids : AreIds es count) where
             (last_covers (nearest_hits s points q k) (ascends_take (λ a b. IsTrue (hit_before a b)) k (range_hits s points q bound) scan_rises) (all_take (λ h. h.dist ≤ bound) k (range_hits s points q bound) scan_bounded)))
 
 -- what a walk names makes the scan's answers
-pub complete : (s : Space) → IsSpace s → (es : List LeafEntry) (count : ℕ) → AreIds es count → AllByRecursion (λ e. IsTrue (s.fits e.point)) es →
-    (query : Query) (answers hits : List Hit) → IsTrue (s.fits (query_point query)) → hits ≡ answers_in (search_for s query answers) es →
+pub complete : (s : Space) → IsSpace s → (es : List LeafEntry) (count : ℕ) → AreIds es count → AllByRecursion (λ e. IsTrue (s.is_point e.point)) es →
+    (query : Query) (answers hits : List Hit) → IsTrue (s.is_point (query_point query)) → hits ≡ answers_in (search_for s query answers) es →
     answers ≡ selected query hits → answers ≡ scan_answers s query (points_from es 0 count)
 complete s axioms es count ids fit (Range q r) answers hits q_fits walk is =
     is ∙ ap (in_order hit_before) walk ∙ named_range es count ids s axioms fit q q_fits (min r bound) r refl
@@ -176,8 +176,8 @@ complete s axioms es count ids fit (Nearest q k) answers hits q_fits walk is = c
     cases false less walk = is ∙ ap (λ hs. take k (in_order hit_before hs)) walk ∙ whole_list es count ids s axioms fit q q_fits k
 
 -- the scan's answers are those that a walk makes which they themselves prune
-pub scan_selected : (s : Space) → IsSpace s → (es : List LeafEntry) (count : ℕ) → AreIds es count → AllByRecursion (λ e. IsTrue (s.fits e.point)) es →
-    (query : Query) → IsTrue (s.fits (query_point query)) →
+pub scan_selected : (s : Space) → IsSpace s → (es : List LeafEntry) (count : ℕ) → AreIds es count → AllByRecursion (λ e. IsTrue (s.is_point e.point)) es →
+    (query : Query) → IsTrue (s.is_point (query_point query)) →
     scan_answers s query (points_from es 0 count) ≡ selected query (answers_in (search_for s query (scan_answers s query (points_from es 0 count))) es)
 scan_selected s axioms es count ids fit (Range q r) q_fits = sym (named_range es count ids s axioms fit q q_fits (min r bound) r refl)
 scan_selected s axioms es count ids fit (Nearest q k) q_fits = own_radius es count ids s axioms fit q q_fits k

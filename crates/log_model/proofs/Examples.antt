@@ -22,7 +22,7 @@ total (x ∷ a) (y ∷ b) = gap x y + total a b
 
 -- the numbers, each a point of one coordinate
 abbrev line : Space
-line = record { words = 1; fits = λ p. length p == 1; dist = total }
+line = record { dimension = 1; is_point = λ p. length p == 1; dist = total }
 
 abbrev object : ℕ → ℕ → ℕ → LeafEntry
 object id x parent = record { id = id; tag = 0; parent = parent; point = x ∷ [] }

@@ -44,7 +44,7 @@ item_things nodes (Object id point) = record { id = id; point = point } ∷ []
 
 abbrev pub FitsCentre : Space → Option (List ℕ) → Type 0
 FitsCentre s None = Unit {0}
-FitsCentre s (Some c) = IsTrue (s.fits c)
+FitsCentre s (Some c) = IsTrue (s.is_point c)
 
 abbrev pub CoversAll : Space → Option (List ℕ) → ℕ → List LeafEntry → Type 0
 CoversAll s None radius os = Unit {0}
@@ -55,12 +55,12 @@ pub record IsSoundSubtree (s : Space) (nodes : Nodes) (page rank : ℕ) (centre 
   pub least : ℕ
   pub rank_is : rank ≡ suc height
   pub sound : IsSoundAt s nodes height least centre page
-  pub fits : FitsCentre s centre
+  pub is_point : FitsCentre s centre
   pub covers : CoversAll s centre radius (objects_at nodes height page)
 
 abbrev pub IsSoundItem : Space → Nodes → Item → Type 0
 IsSoundItem s nodes (Subtree page rank centre radius) = IsSoundSubtree s nodes page rank centre radius
-IsSoundItem s nodes (Object id point) = IsTrue (s.fits point)
+IsSoundItem s nodes (Object id point) = IsTrue (s.is_point point)
 
 -- a pair of objects within rho
 pub record IsPairIn (s : Space) (rho : ℕ) (xs ys : List Thing) (z : Pair) : Type 0 where
@@ -75,12 +75,12 @@ pub record IsPairIn (s : Space) (rho : ℕ) (xs ys : List Thing) (z : Pair) : Ty
 pub record IsSoundMember (s : Space) (nodes : Nodes) (above : Option (List ℕ)) (e : Entry) : Type 0 where
   pub centre : List ℕ
   pub centre_is : centre_of e.item ≡ Some centre
-  pub fits : IsTrue (s.fits centre)
+  pub is_point : IsTrue (s.is_point centre)
   pub stored_is : e.stored ≡ parent_distance s above centre
   pub item : IsSoundItem s nodes e.item
 
 abbrev pub IsHeld : Space → List ℕ → ℕ → Thing → Type 0
-IsHeld s c radius x = IsTrue (s.fits x.point) × (s.dist x.point c ≤ radius)
+IsHeld s c radius x = IsTrue (s.is_point x.point) × (s.dist x.point c ≤ radius)
 
 module _ (s : Space) (axioms : IsSpace s) where
   -- the objects of a sound item with a centre are points within its radius
@@ -93,13 +93,13 @@ module _ (s : Space) (axioms : IsSpace s) where
       let e : d ≡ c = cc in
       rw sound.rank_is (each e (objects_at nodes sound.height page) (objects_fit s nodes sound.height sound.least (Some d) page sound.sound) sound.covers)
     where
-      each : d ≡ c → (os : List LeafEntry) → AllByRecursion (λ o. IsTrue (s.fits o.point)) os → AllByRecursion (λ o. s.dist o.point d ≤ radius) os → AllByRecursion (IsHeld s c radius) (map thing_of os)
+      each : d ≡ c → (os : List LeafEntry) → AllByRecursion (λ o. IsTrue (s.is_point o.point)) os → AllByRecursion (λ o. s.dist o.point d ≤ radius) os → AllByRecursion (IsHeld s c radius) (map thing_of os)
       each e [] fit near = tt
       each e (o ∷ os) fit near = ((fit.0, (rw e at near.0)), each e os fit.1 near.1)
 
   -- two spheres that are far apart hold no pair
   pub far_none : (rho : ℕ) (left right : Nodes) (a b : Item) (c d : List ℕ) → IsSoundItem s left a → IsSoundItem s right b → centre_of a ≡ Some c → centre_of b ≡ Some d →
-      IsTrue (s.fits c) → IsTrue (s.fits d) → rho + radius_of a + radius_of b < s.dist c d → (z : Pair) → IsPairIn s rho (item_things left a) (item_things right b) z → ⊥
+      IsTrue (s.is_point c) → IsTrue (s.is_point d) → rho + radius_of a + radius_of b < s.dist c d → (z : Pair) → IsPairIn s rho (item_things left a) (item_things right b) z → ⊥
   far_none rho left right a b c d a_sound b_sound a_is b_is c_fits d_fits far z p =
       let x = all_in (IsHeld s c (radius_of a)) (item_things left a) p.x (held_item left a c a_sound a_is) p.x_in in
       let y = all_in (IsHeld s d (radius_of b)) (item_things right b) p.y (held_item right b d b_sound b_is) p.y_in in
@@ -112,7 +112,7 @@ module _ (s : Space) (axioms : IsSpace s) where
   pub leaf_members : (nodes : Nodes) (above : Option (List ℕ)) (es : List LeafEntry) → AllByRecursion (IsSoundObject s above) es → AllByRecursion (IsSoundMember s nodes above) (map object_entry es)
   leaf_members nodes above [] all = tt
   leaf_members nodes above (o ∷ os) all =
-      (record { centre = o.point; centre_is = refl; fits = all.0.point_fits; stored_is = all.0.parent_is; item = all.0.point_fits }, leaf_members nodes above os all.1)
+      (record { centre = o.point; centre_is = refl; is_point = all.0.point_fits; stored_is = all.0.parent_is; item = all.0.point_fits }, leaf_members nodes above os all.1)
 
   pub inner_members : (nodes : Nodes) (h : ℕ) (above : Option (List ℕ)) (es : List InnerEntry) → AllByRecursion (SoundSubtree s nodes h above) es →
       AllByRecursion (IsSoundMember s nodes above) (map (subtree_entry (suc h)) es)
@@ -121,9 +121,9 @@ module _ (s : Space) (axioms : IsSpace s) where
     record {
       centre = e.point;
       centre_is = refl;
-      fits = all.0.0.point_fits;
+      is_point = all.0.0.point_fits;
       stored_is = all.0.0.parent_is;
-      item = record { height = h; least = least_for s.words; rank_is = refl; sound = all.0.1; fits = all.0.0.point_fits; covers = all.0.0.covers };
+      item = record { height = h; least = least_for s.dimension; rank_is = refl; sound = all.0.1; is_point = all.0.0.point_fits; covers = all.0.0.covers };
     },
     inner_members nodes h above es all.1,
   )
@@ -184,10 +184,10 @@ pub record IsSoundNeed (s : Space) (left right : Nodes) (n : JoinNeed) : Type 0 
   pub right_sound : IsSoundItem s right n.right
   pub apart_is : n.apart ≡ apart_of s (centre_of n.left) (centre_of n.right)
 
-pub item_fits : (s : Space) (nodes : Nodes) (item : Item) (c : List ℕ) → IsSoundItem s nodes item → centre_of item ≡ Some c → IsTrue (s.fits c)
+pub item_fits : (s : Space) (nodes : Nodes) (item : Item) (c : List ℕ) → IsSoundItem s nodes item → centre_of item ≡ Some c → IsTrue (s.is_point c)
 item_fits s nodes (Object id point) c sound is = let e : point ≡ c = cc in rw e at sound
 item_fits s nodes (Subtree page rank None radius) c sound is = absurd (cc)
-item_fits s nodes (Subtree page rank (Some d) radius) c sound is = let e : d ≡ c = cc in rw e at sound.fits
+item_fits s nodes (Subtree page rank (Some d) radius) c sound is = let e : d ≡ c = cc in rw e at sound.is_point
 
 -- the pair of an entry with the other item, and the other item, by side
 abbrev pub with_side : Space → JoinNeed → Entry → Bool → JoinNeed
@@ -241,17 +241,17 @@ module _ (j : JoinSearch) (axioms : IsSpace j.space) (left right : Nodes) where
           let d_fits = item_fits j.space right n.right d sound.right_sound k in
           let stored : e.stored ≡ j.space.dist m.centre d = m.stored_is ∙ ap (λ (o : Option (List ℕ)). parent_distance j.space o m.centre) k in
           let far = skip_numbers (j.space.dist c d) (j.space.dist m.centre d) (j.space.dist c m.centre) e.stored j.rho (radius_of e.item + radius_of n.left) stored t
-          (let u = axioms.triangle c m.centre d c_fits m.fits d_fits in omega arith)
-          (let u = axioms.triangle m.centre c d m.fits c_fits d_fits in let v = axioms.symmetric m.centre c m.fits c_fits in omega arith) in
-          far_none j.space axioms j.rho left right n.left e.item c m.centre sound.left_sound m.item i m.centre_is c_fits m.fits (omega arith) z p
+          (let u = axioms.triangle c m.centre d c_fits m.is_point d_fits in omega arith)
+          (let u = axioms.triangle m.centre c d m.is_point c_fits d_fits in let v = axioms.symmetric m.centre c m.is_point c_fits in omega arith) in
+          far_none j.space axioms j.rho left right n.left e.item c m.centre sound.left_sound m.item i m.centre_is c_fits m.is_point (omega arith) z p
       sides false (Some c) (Some d) i k m t p =
           let c_fits = item_fits j.space left n.left c sound.left_sound i in
           let d_fits = item_fits j.space right n.right d sound.right_sound k in
           let stored : e.stored ≡ j.space.dist m.centre c = m.stored_is ∙ ap (λ (o : Option (List ℕ)). parent_distance j.space o m.centre) i in
           let far = skip_numbers (j.space.dist c d) (j.space.dist m.centre c) (j.space.dist m.centre d) e.stored j.rho (radius_of e.item + radius_of n.right) stored t
-          (let u = axioms.triangle c m.centre d c_fits m.fits d_fits in let v = axioms.symmetric c m.centre c_fits m.fits in omega arith)
-          (let u = axioms.triangle m.centre d c m.fits d_fits c_fits in let v = axioms.symmetric d c d_fits c_fits in omega arith) in
-          far_none j.space axioms j.rho left right e.item n.right m.centre d m.item sound.right_sound m.centre_is k m.fits d_fits (omega arith) z p
+          (let u = axioms.triangle c m.centre d c_fits m.is_point d_fits in let v = axioms.symmetric c m.centre c_fits m.is_point in omega arith)
+          (let u = axioms.triangle m.centre d c m.is_point d_fits c_fits in let v = axioms.symmetric d c d_fits c_fits in omega arith) in
+          far_none j.space axioms j.rho left right e.item n.right m.centre d m.item sound.right_sound m.centre_is k m.is_point d_fits (omega arith) z p
 
   -- the pair with an entry is sound
   pub next_sound : (n : JoinNeed) → IsSoundNeed j.space left right n → (e : Entry) → Member n (opens_right n) e → IsSoundNeed j.space left right (with_entry j.space n e)

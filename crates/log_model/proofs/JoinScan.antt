@@ -23,24 +23,24 @@ use Rattle.log_model.proofs.ByScan.{AreIds, id_below, at_id, length-points}
 use Rattle.log_model.proofs.JoinNames.{Thing, thing_of, things_at, IsPairIn, IsSoundNeed, join_names}
 
 abbrev AllFit : Space → List LeafEntry → Type 0
-AllFit s es = AllByRecursion (λ o. IsTrue (s.fits o.point)) es
+AllFit s es = AllByRecursion (λ o. IsTrue (s.is_point o.point)) es
 
 -- an object of a sound tree by its id
 thing_point : (s : Space) (es : List LeafEntry) (count : ℕ) → AreIds es count → AllFit s es → (x : Thing) → IsIn x (map thing_of es) →
-    (x.id < count) × (get_or (points_from es 0 count) x.id [] ≡ x.point) × IsTrue (s.fits x.point)
+    (x.id < count) × (get_or (points_from es 0 count) x.id [] ≡ x.point) × IsTrue (s.is_point x.point)
 thing_point s es count ids fit x i =
     let from = in-map thing_of es x i in
     let there = id_below es count ids from.0 from.1 in
-    subst (λ (y : Thing). (y.id < count) × (get_or (points_from es 0 count) y.id [] ≡ y.point) × IsTrue (s.fits y.point)) (sym from.2)
-    (there.0, there.1, all_in (λ o. IsTrue (s.fits o.point)) es from.0 fit from.1)
+    subst (λ (y : Thing). (y.id < count) × (get_or (points_from es 0 count) y.id [] ≡ y.point) × IsTrue (s.is_point y.point)) (sym from.2)
+    (there.0, there.1, all_in (λ o. IsTrue (s.is_point o.point)) es from.0 fit from.1)
 
 point_thing : (s : Space) (es : List LeafEntry) (count : ℕ) → AreIds es count → AllFit s es → (id : ℕ) → id < count →
-    IsIn (record { id = id; point = get_or (points_from es 0 count) id [] }) (map thing_of es) × IsTrue (s.fits (get_or (points_from es 0 count) id []))
+    IsIn (record { id = id; point = get_or (points_from es 0 count) id [] }) (map thing_of es) × IsTrue (s.is_point (get_or (points_from es 0 count) id []))
 point_thing s es count ids fit id low =
     let here = at_id es count ids id low in
     let same : ◌≡◌ {A = Thing} (thing_of here.0) (record { id = id; point = get_or (points_from es 0 count) id [] }) = (λ i. record { id = here.2 i; point = sym here.3 i }) in (
       subst (λ (y : Thing). IsIn y (map thing_of es)) same (map-in thing_of es here.0 here.1),
-      subst (λ (p : List ℕ). IsTrue (s.fits p)) (sym here.3) (all_in (λ o. IsTrue (s.fits o.point)) es here.0 fit here.1),
+      subst (λ (p : List ℕ). IsTrue (s.is_point p)) (sym here.3) (all_in (λ o. IsTrue (s.is_point o.point)) es here.0 fit here.1),
     )
 
 module _ (s : Space) (axioms : IsSpace s) (ds es : List LeafEntry) (b c r : ℕ) (ids : AreIds ds b) (jds : AreIds es c) (fit : AllFit s ds) (git : AllFit s es) where
@@ -78,8 +78,8 @@ module _ (s : Space) (axioms : IsSpace s) (ds es : List LeafEntry) (b c r : ℕ)
 module _ (s : Space) (left right : Nodes) (l r : Live) (lsound : IsSoundTree s left l) (rsound : IsSoundTree s right r) where
   pub roots_sound : IsSoundNeed s left right (root_pair l r)
   roots_sound = record {
-    left_sound = record { height = l.height; least = root_least l.height; rank_is = (omega arith); sound = lsound.parts; fits = tt; covers = tt };
-    right_sound = record { height = r.height; least = root_least r.height; rank_is = (omega arith); sound = rsound.parts; fits = tt; covers = tt };
+    left_sound = record { height = l.height; least = root_least l.height; rank_is = (omega arith); sound = lsound.parts; is_point = tt; covers = tt };
+    right_sound = record { height = r.height; least = root_least r.height; rank_is = (omega arith); sound = rsound.parts; is_point = tt; covers = tt };
     apart_is = refl;
   }
 

@@ -28,10 +28,10 @@ use Rattle.log_model.proofs.ByScan.{complete, scan_selected}
 use Rattle.log_model.proofs.Least.{walks_wider, least_allowed, least_same}
 
 -- what a walk from the root of a sound tree names
-pub root_names : (s : Space) → IsSpace s → (nodes : Nodes) (live : Live) → IsSoundTree s nodes live → (f : Search) → f.space ≡ s → IsTrue (f.space.fits f.point) →
+pub root_names : (s : Space) → IsSpace s → (nodes : Nodes) (live : Live) → IsSoundTree s nodes live → (f : Search) → f.space ≡ s → IsTrue (f.space.is_point f.point) →
     (records : List Record) (hits : List Hit) → WalksBy AreAllowed f nodes (root_need live.root ∷ []) records hits → hits ≡ answers_in f (objects nodes live)
-root_names s axioms nodes live sound f same fits records hits walk =
-    walk_names f (rw same axioms) fits nodes records (record { height = live.height; least = root_least live.height; above = None; page = live.root } ∷ []) hits
+root_names s axioms nodes live sound f same is_point records hits walk =
+    walk_names f (rw same axioms) is_point nodes records (record { height = live.height; least = root_least live.height; above = None; page = live.root } ∷ []) hits
     ((rw same sound.parts, tt), tt) walk
     ∙ ap (answers_in f) (append-nil (objects nodes live))
 
@@ -85,9 +85,9 @@ module _ (f : Search) (nodes : Nodes) where
   sound_begins (suc h) least up page sound above ns rest =
       step (record { page = page; above = above }) (Inner (suc h) sound.0) sound.1 ns
       (all_begin sound.0 (least_marks f above (Inner (suc h) sound.0))
-      (all_weaker (SoundSubtree f.space nodes h up) (λ e. Begins e.child) sound.0 (λ e k. sound_begins h (least_for f.space.words) (Some e.point) e.child k.1) sound.3) ns rest)
+      (all_weaker (SoundSubtree f.space nodes h up) (λ e. Begins e.child) sound.0 (λ e k. sound_begins h (least_for f.space.dimension) (Some e.point) e.child k.1) sound.3) ns rest)
 
-module _ (s : Space) (nodes : Nodes) (live : Live) (query : Query) (axioms : IsSpace s) (sound : IsSoundTree s nodes live) (fits : IsTrue (s.fits (query_point query))) where
+module _ (s : Space) (nodes : Nodes) (live : Live) (query : Query) (axioms : IsSpace s) (sound : IsSoundTree s nodes live) (is_point : IsTrue (s.is_point (query_point query))) where
   abbrev pub answers : List Hit
   answers = scan_answers s query (points_by_id nodes live)
 
@@ -98,7 +98,7 @@ module _ (s : Space) (nodes : Nodes) (live : Live) (query : Query) (axioms : IsS
   walked = sound_begins f nodes live.height (root_least live.height) None live.root sound.parts None [] (record { records = []; hits = []; walk = refl })
 
   named : walked.hits ≡ answers_in f (objects nodes live)
-  named = root_names s axioms nodes live sound f refl fits walked.records walked.hits
+  named = root_names s axioms nodes live sound f refl is_point walked.records walked.hits
       (walks_wider AreLeast AreAllowed f nodes (least_allowed f) (root_need live.root ∷ []) walked.records walked.hits walked.walk)
 
   pub exists : (log : Log) × IsLeastLog s nodes live query log
@@ -109,11 +109,11 @@ module _ (s : Space) (nodes : Nodes) (live : Live) (query : Query) (axioms : IsS
       record {
         generation_is = refl;
         root_is = refl;
-        point_fits = fits;
+        point_fits = is_point;
         hits = walked.hits;
         walk = walked.walk;
         answers_are =
-            scan_selected s axioms (objects nodes live) live.count sound.ids (objects_fit s nodes live.height (root_least live.height) None live.root sound.parts) query fits
+            scan_selected s axioms (objects nodes live) live.count sound.ids (objects_fit s nodes live.height (root_least live.height) None live.root sound.parts) query is_point
             ∙ ap (selected query) (sym named);
       },
     ),
@@ -133,4 +133,4 @@ module _ (s : Space) (nodes : Nodes) (live : Live) (query : Query) (axioms : IsS
       λ i. record { generation = generation_same i; root = root_same i; query = query_same i; answers = answers_same i; records = records_same i }
 
 pub least_one : LeastLogIsOne
-least_one s nodes live query axioms sound fits = (exists s nodes live query axioms sound fits, one s nodes live query axioms sound fits)
+least_one s nodes live query axioms sound is_point = (exists s nodes live query axioms sound is_point, one s nodes live query axioms sound is_point)

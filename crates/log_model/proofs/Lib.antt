@@ -14,5 +14,5 @@ pub mod Sorting
 pub mod Examples
 pub mod OneEntry
 pub mod Reached
-pub mod Lawful
+pub mod Valid
 pub mod Published

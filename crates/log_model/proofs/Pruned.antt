@@ -23,7 +23,7 @@ point_above f (Some p) = Some (away f p)
 -- the routing point above is a point
 abbrev pub FitsAbove : Space → Option (List ℕ) → Type 0
 FitsAbove s None = Unit {0}
-FitsAbove s (Some p) = IsTrue (s.fits p)
+FitsAbove s (Some p) = IsTrue (s.is_point p)
 
 -- an object within the search's radius
 abbrev pub is_answer : Search → LeafEntry → Bool
@@ -31,18 +31,18 @@ is_answer f o = nat_le (away f o.point) f.rho
 
 -- the objects below an entry of a sound tree are points within its radius
 pub held : (s : Space) (nodes : Nodes) (h : ℕ) (above : Option (List ℕ)) (e : InnerEntry) → SoundSubtree s nodes h above e →
-    AllByRecursion (λ o. IsTrue (s.fits o.point) × (s.dist o.point e.point ≤ e.radius)) (objects_at nodes h e.child)
+    AllByRecursion (λ o. IsTrue (s.is_point o.point) × (s.dist o.point e.point ≤ e.radius)) (objects_at nodes h e.child)
 held s nodes h above e sound = all_both (Fits s) (λ o. s.dist o.point e.point ≤ e.radius) (objects_at nodes h e.child)
-    (objects_fit s nodes h (least_for s.words) (Some e.point) e.child sound.1) sound.0.covers
+    (objects_fit s nodes h (least_for s.dimension) (Some e.point) e.child sound.1) sound.0.covers
 
 -- the parent test on numbers: dp and dq are the distances to the search's point, de that of the two points
 pub parent_far : (a dp de dq near stored rho radius : ℕ) → stored ≡ de → parent_rules_out dp stored rho radius ≡ true → near ≤ radius →
     dp ≤ de + dq → de ≤ dq + dp → dq ≤ near + a → nat_le a rho ≡ false
 parent_far a dp de dq near stored rho radius is test close t1 t2 t3 = grind (arith, nat_tests)
 
-module _ (f : Search) (axioms : IsSpace f.space) (q_fits : IsTrue (f.space.fits f.point)) where
+module _ (f : Search) (axioms : IsSpace f.space) (q_fits : IsTrue (f.space.is_point f.point)) where
   -- a point that the parent test passes is too far, and so is each object of its sphere
-  pub skipped_far : (above : Option (List ℕ)) → FitsAbove f.space above → (e o : List ℕ) → IsTrue (f.space.fits e) → IsTrue (f.space.fits o) →
+  pub skipped_far : (above : Option (List ℕ)) → FitsAbove f.space above → (e o : List ℕ) → IsTrue (f.space.is_point e) → IsTrue (f.space.is_point o) →
       (stored radius : ℕ) → stored ≡ parent_distance f.space above e → f.space.dist o e ≤ radius →
       is_skipped f (point_above f above) stored radius ≡ true → nat_le (away f o) f.rho ≡ false
   skipped_far None fit e o e_fits o_fits stored radius is near skip = absurd (cc)
@@ -53,7 +53,7 @@ module _ (f : Search) (axioms : IsSpace f.space) (q_fits : IsTrue (f.space.fits 
       (rw (axioms.symmetric o e o_fits e_fits) (axioms.triangle e o f.point e_fits o_fits q_fits))
 
   -- the same of the centre test
-  pub far_off : (e o : List ℕ) → IsTrue (f.space.fits e) → IsTrue (f.space.fits o) → (radius : ℕ) → f.space.dist o e ≤ radius →
+  pub far_off : (e o : List ℕ) → IsTrue (f.space.is_point e) → IsTrue (f.space.is_point o) → (radius : ℕ) → f.space.dist o e ≤ radius →
       centre_rules_out (away f e) f.rho radius ≡ true → nat_le (away f o) f.rho ≡ false
   far_off e o e_fits o_fits radius near test =
       let t = axioms.triangle e o f.point e_fits o_fits q_fits in
@@ -71,14 +71,14 @@ module _ (f : Search) (axioms : IsSpace f.space) (q_fits : IsTrue (f.space.fits 
       let no = skipped_far above fit e.point e.point sound.0.point_fits sound.0.point_fits e.parent 0 sound.0.parent_is (at_itself e.point sound.0.point_fits) allowed.0 in
       rw no (leaf_marked_near above fit es ms sound.1 allowed.1)
     where
-      at_itself : (p : List ℕ) → IsTrue (f.space.fits p) → f.space.dist p p ≤ 0
-      at_itself p fits = let z = axioms.zero_same p fits in omega arith
+      at_itself : (p : List ℕ) → IsTrue (f.space.is_point p) → f.space.dist p p ≤ 0
+      at_itself p is_point = let z = axioms.zero_same p is_point in omega arith
   leaf_marked_near above fit (e ∷ es) (Far ∷ ms) sound allowed =
       let no = far_off e.point e.point sound.0.point_fits sound.0.point_fits 0 (at_itself e.point sound.0.point_fits) allowed.0 in
       rw no (leaf_marked_near above fit es ms sound.1 allowed.1)
     where
-      at_itself : (p : List ℕ) → IsTrue (f.space.fits p) → f.space.dist p p ≤ 0
-      at_itself p fits = let z = axioms.zero_same p fits in omega arith
+      at_itself : (p : List ℕ) → IsTrue (f.space.is_point p) → f.space.dist p p ≤ 0
+      at_itself p is_point = let z = axioms.zero_same p is_point in omega arith
   leaf_marked_near above fit (e ∷ es) (Near ∷ ms) sound allowed =
       rw allowed.0 (ap (λ r. e ∷ r) (leaf_marked_near above fit es ms sound.1 allowed.1))
 

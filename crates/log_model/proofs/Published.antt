@@ -29,4 +29,4 @@ pub use Rattle.log_model.proofs.OneEntry.{leaf_far, leaf_near}
 -- Walks that stopped before their end.
 pub use Rattle.log_model.proofs.Reached.{reaches_more, walks_whole, reached_inside, count_up_more, count_up_both, measured-append}
 -- The logs of walks have a spelling.
-pub use Rattle.log_model.proofs.Lawful.{lawful_log, marks_long, hits_few}
+pub use Rattle.log_model.proofs.Valid.{valid_log, marks_long, hits_few}

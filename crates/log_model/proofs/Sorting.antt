@@ -49,7 +49,7 @@ module _ {X : Type 0} (before : X → X → Bool) (order : IsOrder X before) whe
       later k d h = rw add-one (rw add-one at h)
 
   -- a sorted list without doubles is ascending
-  module _ (same : X → X → Bool) (tells : (x y : X) → same x y ≡ true → x ≡ y) (itself : (x : X) → same x x ≡ true) where
+  module _ (same : X → X → Bool) (is_known : (x y : X) → same x y ≡ true → x ≡ y) (itself : (x : X) → same x x ≡ true) where
     pub rises : (k : X) (xs : List X) → NeverFalls (k ∷ xs) → Rising (dedup same (k ∷ xs)) × AllByRecursion (λ z. (z ≡ k) ⊎ Before k z) (dedup same (k ∷ xs))
     rises k [] up = ((tt, tt), (inl refl, tt))
     rises k (x ∷ xs) up = cases (same x k) refl (rises k xs) (rises x xs up.1)
@@ -58,7 +58,7 @@ module _ {X : Type 0} (before : X → X → Bool) (order : IsOrder X before) whe
             (NeverFalls (k ∷ xs) → Rising (dedup same (k ∷ xs)) × AllByRecursion (λ z. (z ≡ k) ⊎ Before k z) (dedup same (k ∷ xs))) →
             Rising (dedup same (x ∷ xs)) × AllByRecursion (λ z. (z ≡ x) ⊎ Before x z) (dedup same (x ∷ xs)) →
             Rising (cond b (dedup same (k ∷ xs)) (k ∷ dedup same (x ∷ xs))) × AllByRecursion (λ z. (z ≡ k) ⊎ Before k z) (cond b (dedup same (k ∷ xs)) (k ∷ dedup same (x ∷ xs)))
-        cases true e ih later = ih (subst (λ (y : X). NeverFalls (y ∷ xs)) (tells x k e) up.1)
+        cases true e ih later = ih (subst (λ (y : X). NeverFalls (y ∷ xs)) (is_known x k e) up.1)
         cases false e ih later =
             let first : Before k x = is_first (before k x) refl in
             let rest = all_weaker (λ z. (z ≡ x) ⊎ Before x z) (λ z. Before k z) (dedup same (x ∷ xs))
@@ -88,7 +88,7 @@ module _ {X : Type 0} (before : X → X → Bool) (order : IsOrder X before) whe
       where
         cases : (b : Bool) → same x k ≡ b → (IsIn z (k ∷ xs) → IsIn z (dedup same (k ∷ xs))) → (IsIn z (x ∷ xs) → IsIn z (dedup same (x ∷ xs))) →
             IsIn z (k ∷ x ∷ xs) → IsIn z (cond b (dedup same (k ∷ xs)) (k ∷ dedup same (x ∷ xs)))
-        cases true e one two h = elim h [ inl i ↦ one (inl i) | inr w ↦ elim w [ inl i ↦ one (inl (i ∙ tells x k e)) | inr u ↦ one (inr u) ] ]
+        cases true e one two h = elim h [ inl i ↦ one (inl i) | inr w ↦ elim w [ inl i ↦ one (inl (i ∙ is_known x k e)) | inr u ↦ one (inr u) ] ]
         cases false e one two h = elim h [ inl i ↦ inl i | inr w ↦ inr (two w) ]
 
     pub in-dedup : (xs : List X) (z : X) → IsIn z (dedup same xs) → IsIn z xs

@@ -35,7 +35,7 @@ IsSoundSpot s nodes p = IsSoundAt s nodes p.height p.least p.above p.page × Fit
 
 -- the place of a child
 abbrev pub spot_of : Space → ℕ → InnerEntry → Spot
-spot_of s h e = record { height = h; least = least_for s.words; above = Some e.point; page = e.child }
+spot_of s h e = record { height = h; least = least_for s.dimension; above = Some e.point; page = e.child }
 
 abbrev pub objects_of : Nodes → List Spot → List LeafEntry
 objects_of nodes ps = flat_map (λ p. objects_at nodes p.height p.page) ps
@@ -74,7 +74,7 @@ StepAt f nodes above ns marks rs hits node =
 pub same_node : (o : Option Node) (m n : Node) → o ≡ Some m → o ≡ Some n → m ≡ n
 same_node o m n e g = cc
 
-module _ (f : Search) (axioms : IsSpace f.space) (q_fits : IsTrue (f.space.fits f.point)) (nodes : Nodes) where
+module _ (f : Search) (axioms : IsSpace f.space) (q_fits : IsTrue (f.space.is_point f.point)) (nodes : Nodes) where
   -- what the walk of the remaining records is known to name
   abbrev pub Names : List Record → Type 0
   Names rs = (ps : List Spot) (hits : List Hit) → AllByRecursion (IsSoundSpot f.space nodes) ps → WalksBy AreAllowed f nodes (map (need_at f) ps) rs hits →

@@ -44,7 +44,7 @@ LeastJoinLogsAreSound =
 -- on a sound tree each query whose point fits has exactly one least log
 abbrev pub LeastLogIsOne : Type 0
 LeastLogIsOne =
-    (s : Space) (nodes : Nodes) (live : Live) (query : Query) → IsSpace s → IsSoundTree s nodes live → IsTrue (s.fits (query_point query)) →
+    (s : Space) (nodes : Nodes) (live : Live) (query : Query) → IsSpace s → IsSoundTree s nodes live → IsTrue (s.is_point (query_point query)) →
     ((log : Log) × IsLeastLog s nodes live query log)
     × ((a b : Log) → IsLeastLog s nodes live query a → IsLeastLog s nodes live query b → a ≡ b)
 

@@ -9,7 +9,7 @@ use Rattle.tree_shape.specs.declared.live.Live.{Live}
 use Rattle.tree_shape.specs.Tree.{Nodes}
 use Rattle.log_model.specs.declared.logs.Log.{Log}
 use Rattle.log_model.specs.declared.logs.Found.{Found}
-use Rattle.log_model.specs.Grammar.{query_point, IsLawfulLog}
+use Rattle.log_model.specs.Grammar.{query_point, IsValidLog}
 use Rattle.log_model.specs.InOrder.{in_order, hit_before}
 use Rattle.log_model.specs.Walk.{Search, search_at, Rule, AreAllowed, AreLeast, WalksBy, root_need}
 
@@ -38,7 +38,7 @@ search_for s query answers = search_at s (query_point query) (pruning_radius que
 pub record IsLogBy (rule : Rule) (s : Space) (nodes : Nodes) (live : Live) (log : Log) : Type 0 where
   pub generation_is : log.generation ≡ live.generation
   pub root_is : log.root ≡ live.root
-  pub point_fits : IsTrue (s.fits (query_point log.query))
+  pub point_fits : IsTrue (s.is_point (query_point log.query))
   pub hits : List Hit
   pub walk : WalksBy rule (search_for s log.query log.answers) nodes (root_need live.root ∷ []) log.records hits
   pub answers_are : log.answers ≡ selected log.query hits
@@ -57,4 +57,4 @@ pub record IsLogOf (live : Live) (query : Query) (found : Found) : Type 0 where
   pub generation_is : found.log.generation ≡ live.generation
   pub root_is : found.log.root ≡ live.root
   pub query_is : found.log.query ≡ query
-  pub lawful : IsLawfulLog found.log
+  pub valid : IsValidLog found.log

@@ -31,7 +31,7 @@ difference_is i (x ∷ xs) (y ∷ ys) v is = cases ((x.left == y.left) && ((x.ri
     cases true later is = later is
     cases false later is = (i, (let e : v ≡ WrongAnswer i = cc in e))
 
-pub difference_cause : (l l2 r r2 : Shelf) (v : JoinVerdict) (F : Type 0) (i : ℕ) (xs ys : List Pair) → pair_difference i xs ys ≡ Some v → (IsTrue l.tells → IsTrue r.tells → F) → HasJoinCause l l2 r r2 v F
+pub difference_cause : (l l2 r r2 : Shelf) (v : JoinVerdict) (F : Type 0) (i : ℕ) (xs ys : List Pair) → pair_difference i xs ys ≡ Some v → (IsTrue l.is_known → IsTrue r.is_known → F) → HasJoinCause l l2 r r2 v F
 difference_cause l l2 r r2 v F i xs ys is fault = caused v (difference_is i xs ys v is)
   where
     clash : (b : Bool) (p : PageFault) (k : ℕ) → Page b p ≡ WrongAnswer k → ⊥
@@ -77,7 +77,7 @@ sound_faults s lr rr l r log v wise fault = (let none = join_none_from_sound s l
     clash v e = cc
 
 -- what may come where the log has no fault
-pub passing : (l l2 r r2 : Shelf) (v : JoinVerdict) (F : Type 0) → HasJoinCause l l2 r r2 v F → IsTrue l.tells → IsTrue r.tells → (F → ⊥) → IsJoinPassing v
+pub passing : (l l2 r r2 : Shelf) (v : JoinVerdict) (F : Type 0) → HasJoinCause l l2 r r2 v F → IsTrue l.is_known → IsTrue r.is_known → (F → ⊥) → IsJoinPassing v
 passing l l2 r r2 Memory F cause x y never = tt
 passing l l2 r r2 (Page false pages.Disk) F cause x y never = tt
 passing l l2 r r2 (Page true pages.Disk) F cause x y never = tt

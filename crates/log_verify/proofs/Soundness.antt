@@ -162,28 +162,28 @@ pub sound_from_none : (s : Space) (read : Read) (live : Live) (log : Log) → lo
 sound_from_none s read live log none = state ((log.generation == live.generation) && (log.root == live.root)) refl none
   where
     walks : (w : Result (List Hit) Verdict) → walk_of s read live log ≡ w → after_walk log w ≡ None →
-        (log.generation ≡ live.generation) × (log.root ≡ live.root) → IsTrue (s.fits (query_point log.query)) → IsSoundLog s (nodes_of read) live log
-    walks (Err fault) is none state fits = absurd cc
-    walks (Ok hits) is none state fits =
+        (log.generation ≡ live.generation) × (log.root ≡ live.root) → IsTrue (s.is_point (query_point log.query)) → IsSoundLog s (nodes_of read) live log
+    walks (Err fault) is none state is_point = absurd cc
+    walks (Ok hits) is none state is_point =
         let deep = follows_from_walked (search_for s log.query log.answers) read [] (root_need live.root ∷ []) log.records 0 hits is in
         record {
           generation_is = state.0;
           root_is = state.1;
-          point_fits = fits;
+          point_fits = is_point;
           hits = deep.0;
           walk = deep.1;
           answers_are = same_answers 0 log.answers (selected log.query hits) none ∙ ap (selected log.query) deep.2;
         }
 
-    points : (b : Bool) → s.fits (query_point log.query) ≡ b → (log.generation ≡ live.generation) × (log.root ≡ live.root) →
+    points : (b : Bool) → s.is_point (query_point log.query) ≡ b → (log.generation ≡ live.generation) × (log.root ≡ live.root) →
         (if b then after_walk log (walk_of s read live log) else Some Point) ≡ None → IsSoundLog s (nodes_of read) live log
-    points true fits state none = walks (walk_of s read live log) refl none state fits
-    points false fits state none = absurd cc
+    points true is_point state none = walks (walk_of s read live log) refl none state is_point
+    points false is_point state none = absurd cc
 
     state : (b : Bool) → ((log.generation == live.generation) && (log.root == live.root)) ≡ b →
-        (if b then (if s.fits (query_point log.query) then after_walk log (walk_of s read live log) else Some Point) else Some (OtherState (log.generation, log.root) (live.generation, live.root))) ≡ None →
+        (if b then (if s.is_point (query_point log.query) then after_walk log (walk_of s read live log) else Some Point) else Some (OtherState (log.generation, log.root) (live.generation, live.root))) ≡ None →
         IsSoundLog s (nodes_of read) live log
-    state true same none = points (s.fits (query_point log.query)) refl (same_both log.generation live.generation log.root live.root same) none
+    state true same none = points (s.is_point (query_point log.query)) refl (same_both log.generation live.generation log.root live.root same) none
     state false other none = absurd cc
 
 pub none_from_sound : (s : Space) (read : Read) (live : Live) (log : Log) → IsSoundLog s (nodes_of read) live log → log_fault s read live log ≡ None

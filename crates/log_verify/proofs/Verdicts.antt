@@ -29,7 +29,7 @@ difference_is i (x ∷ xs) (y ∷ ys) v is = cases ((x.id == y.id) && (x.dist ==
     cases true later is = later is
     cases false later is = (i, (let e : v ≡ WrongAnswer i = cc in e))
 
-pub difference_cause : (old new : Shelf) (v : Verdict) (F : Type 0) (i : ℕ) (xs ys : List Hit) → first_difference i xs ys ≡ Some v → (IsTrue old.tells → F) → HasCause old new v F
+pub difference_cause : (old new : Shelf) (v : Verdict) (F : Type 0) (i : ℕ) (xs ys : List Hit) → first_difference i xs ys ≡ Some v → (IsTrue old.is_known → F) → HasCause old new v F
 difference_cause old new v F i xs ys is fault = caused v (difference_is i xs ys v is)
   where
     caused : (w : Verdict) → (k : ℕ) × (w ≡ WrongAnswer k) → HasCause old new w F
@@ -48,11 +48,11 @@ difference_cause old new v F i xs ys is fault = caused v (difference_is i xs ys 
 
 -- the log's fault where its walk has none is the first difference of the answers
 pub fault_differs : (s : Space) (read : Read) (live : Live) (log : Log) (f : Search) (hits : List Hit) (d : Option Verdict) → f ≡ search_for s log.query log.answers → log.generation ≡ live.generation
-    → log.root ≡ live.root → s.fits (query_point log.query) ≡ true → walked f read [] (root_need live.root ∷ []) log.records 0 ≡ Ok hits → first_difference 0 log.answers (selected log.query hits) ≡ d
+    → log.root ≡ live.root → s.is_point (query_point log.query) ≡ true → walked f read [] (root_need live.root ∷ []) log.records 0 ≡ Ok hits → first_difference 0 log.answers (selected log.query hits) ≡ d
     → log_fault s read live log ≡ d
-fault_differs s read live log f hits d searches generation root fits walk differs =
+fault_differs s read live log f hits d searches generation root is_point walk differs =
     let whole : walk_of s read live log ≡ Ok hits = ap (λ (g : Search). walked g read [] (root_need live.root ∷ []) log.records 0) (sym searches) ∙ walk in
-    rw (both_same log.generation live.generation log.root live.root generation root, fits, whole) differs
+    rw (both_same log.generation live.generation log.root live.root generation root, is_point, whole) differs
 
 -- a sound log's walk has no fault
 pub sound_walks : (s : Space) (read : Read) (live : Live) (log : Log) (f : Search) (v : Verdict) → f ≡ search_for s log.query log.answers → IsSoundLog s (nodes_of read) live log
@@ -72,18 +72,18 @@ sound_faults s read live log v wise fault = (let none = none_from_sound s read l
     clash v e = cc
 
 -- what may come where the log has no fault
-pub passing : (old new : Shelf) (v : Verdict) (F : Type 0) → HasCause old new v F → IsTrue old.tells → (F → ⊥) → IsPassing v
-passing old new Memory F cause tells never = tt
-passing old new (Page pages.Disk) F cause tells never = tt
-passing old new (Page (pages.Bad page fault)) F cause tells never = never (cause.2 tells)
-passing old new (Page (pages.Outside page)) F cause tells never = never (cause.1 tells)
-passing old new (Page pages.Memory) F cause tells never = cause
-passing old new (Page (pages.Repeats page)) F cause tells never = cause
-passing old new (Page (pages.Level page)) F cause tells never = cause
-passing old new (OtherState named live) F cause tells never = never (cause tells)
-passing old new Point F cause tells never = never (cause tells)
-passing old new (WrongPage i) F cause tells never = never (cause tells)
-passing old new (WrongCount i) F cause tells never = never (cause tells)
-passing old new (WrongMark i j) F cause tells never = never (cause tells)
-passing old new (WrongAnswer i) F cause tells never = never (cause tells)
-passing old new (LeftOver i) F cause tells never = never (cause tells)
+pub passing : (old new : Shelf) (v : Verdict) (F : Type 0) → HasCause old new v F → IsTrue old.is_known → (F → ⊥) → IsPassing v
+passing old new Memory F cause is_known never = tt
+passing old new (Page pages.Disk) F cause is_known never = tt
+passing old new (Page (pages.Bad page fault)) F cause is_known never = never (cause.2 is_known)
+passing old new (Page (pages.Outside page)) F cause is_known never = never (cause.1 is_known)
+passing old new (Page pages.Memory) F cause is_known never = cause
+passing old new (Page (pages.Repeats page)) F cause is_known never = cause
+passing old new (Page (pages.Level page)) F cause is_known never = cause
+passing old new (OtherState named live) F cause is_known never = never (cause is_known)
+passing old new Point F cause is_known never = never (cause is_known)
+passing old new (WrongPage i) F cause is_known never = never (cause is_known)
+passing old new (WrongCount i) F cause is_known never = never (cause is_known)
+passing old new (WrongMark i j) F cause is_known never = never (cause is_known)
+passing old new (WrongAnswer i) F cause is_known never = never (cause is_known)
+passing old new (LeftOver i) F cause is_known never = never (cause is_known)

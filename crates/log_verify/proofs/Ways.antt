@@ -19,55 +19,55 @@ use Rattle.log_verify.proofs.Counting.{count_up-add}
 
 -- ---- causes
 
-pub refusal_kept : (old mid new : Shelf) (fault : PageFault) (F G : Type 0) → HoldsSame old mid → (IsTrue old.tells → F → G) → HasRefusal mid new fault F → HasRefusal old new fault G
+pub refusal_kept : (old mid new : Shelf) (fault : PageFault) (F G : Type 0) → HoldsSame old mid → (IsTrue old.is_known → F → G) → HasRefusal mid new fault F → HasRefusal old new fault G
 refusal_kept old mid new pages.Disk F G same implies rose = omega (arith, same.faults, rose)
 refusal_kept old mid new (pages.Bad page fault) F G same implies cause =
-    (cause.0, subst (λ (n : ℕ). IsWithin n page) same.pages cause.1, λ tells. implies tells (cause.2 (same.tells ∙ tells)))
+    (cause.0, subst (λ (n : ℕ). IsWithin n page) same.pages cause.1, λ is_known. implies is_known (cause.2 (same.is_known ∙ is_known)))
 refusal_kept old mid new (pages.Outside page) F G same implies cause =
-    (ap (λ (n : ℕ). is_within n page) (sym same.pages) ∙ cause.0, λ tells. implies tells (cause.1 (same.tells ∙ tells)))
+    (ap (λ (n : ℕ). is_within n page) (sym same.pages) ∙ cause.0, λ is_known. implies is_known (cause.1 (same.is_known ∙ is_known)))
 refusal_kept old mid new pages.Memory F G same implies cause = cause
 refusal_kept old mid new (pages.Repeats page) F G same implies cause = cause
 refusal_kept old mid new (pages.Level page) F G same implies cause = cause
 
 -- a cause since the pages were in an earlier state
-pub cause_kept : (old mid new : Shelf) (v : Verdict) (F G : Type 0) → HoldsSame old mid → (IsTrue old.tells → F → G) → HasCause mid new v F → HasCause old new v G
+pub cause_kept : (old mid new : Shelf) (v : Verdict) (F G : Type 0) → HoldsSame old mid → (IsTrue old.is_known → F → G) → HasCause mid new v F → HasCause old new v G
 cause_kept old mid new Memory F G same implies cause = tt
 cause_kept old mid new (Page fault) F G same implies cause = refusal_kept old mid new fault F G same implies cause
-cause_kept old mid new (OtherState named live) F G same implies cause = λ tells. implies tells (cause (same.tells ∙ tells))
-cause_kept old mid new Point F G same implies cause = λ tells. implies tells (cause (same.tells ∙ tells))
-cause_kept old mid new (WrongPage i) F G same implies cause = λ tells. implies tells (cause (same.tells ∙ tells))
-cause_kept old mid new (WrongCount i) F G same implies cause = λ tells. implies tells (cause (same.tells ∙ tells))
-cause_kept old mid new (WrongMark i j) F G same implies cause = λ tells. implies tells (cause (same.tells ∙ tells))
-cause_kept old mid new (WrongAnswer i) F G same implies cause = λ tells. implies tells (cause (same.tells ∙ tells))
-cause_kept old mid new (LeftOver i) F G same implies cause = λ tells. implies tells (cause (same.tells ∙ tells))
+cause_kept old mid new (OtherState named live) F G same implies cause = λ is_known. implies is_known (cause (same.is_known ∙ is_known))
+cause_kept old mid new Point F G same implies cause = λ is_known. implies is_known (cause (same.is_known ∙ is_known))
+cause_kept old mid new (WrongPage i) F G same implies cause = λ is_known. implies is_known (cause (same.is_known ∙ is_known))
+cause_kept old mid new (WrongCount i) F G same implies cause = λ is_known. implies is_known (cause (same.is_known ∙ is_known))
+cause_kept old mid new (WrongMark i j) F G same implies cause = λ is_known. implies is_known (cause (same.is_known ∙ is_known))
+cause_kept old mid new (WrongAnswer i) F G same implies cause = λ is_known. implies is_known (cause (same.is_known ∙ is_known))
+cause_kept old mid new (LeftOver i) F G same implies cause = λ is_known. implies is_known (cause (same.is_known ∙ is_known))
 
 -- ---- the walk
 
 module _ (f g : Search) (old mid : Shelf) (hits : List Hit) (stack : List Need) (records : List Record) (i taken : ℕ) (r : Record) (total : Result (List Hit) Verdict)
     (searches : g ≡ f) (same : HoldsSame old mid) (low : i < length records) (is : r ≡ get_or records i r)
-    (way : IsTrue old.tells → walked f old.read hits stack (drop i records) taken ≡ total) where
-  here : IsTrue old.tells → walked g mid.read hits stack (r ∷ drop (suc i) records) taken ≡ total
-  here tells =
+    (way : IsTrue old.is_known → walked f old.read hits stack (drop i records) taken ≡ total) where
+  here : IsTrue old.is_known → walked g mid.read hits stack (r ∷ drop (suc i) records) taken ≡ total
+  here is_known =
       ap (λ (h : Search). walked h mid.read hits stack (r ∷ drop (suc i) records) taken) searches
       ∙ ap (λ (read : Read). walked f read hits stack (r ∷ drop (suc i) records) taken) same.read
       ∙ ap (λ (e : Record). walked f old.read hits stack (e ∷ drop (suc i) records) taken) is
       ∙ ap (λ (rs : List Record). walked f old.read hits stack rs taken) (sym (drop-cons records i r low))
-      ∙ way tells
+      ∙ way is_known
 
   -- one record further
   pub way_next : (hits2 : List Hit) (stack2 : List Need) (taken2 : ℕ)
-      → (IsTrue mid.tells → (rs : List Record) → walked g mid.read hits stack (r ∷ rs) taken ≡ walked g mid.read hits2 stack2 rs taken2)
-      → IsTrue old.tells → walked f old.read hits2 stack2 (drop (i + 1) records) taken2 ≡ total
-  way_next hits2 stack2 taken2 step tells =
+      → (IsTrue mid.is_known → (rs : List Record) → walked g mid.read hits stack (r ∷ rs) taken ≡ walked g mid.read hits2 stack2 rs taken2)
+      → IsTrue old.is_known → walked f old.read hits2 stack2 (drop (i + 1) records) taken2 ≡ total
+  way_next hits2 stack2 taken2 step is_known =
       ap (λ (k : ℕ). walked f old.read hits2 stack2 (drop k records) taken2) (let k : i + 1 ≡ suc i = omega arith in k)
       ∙ ap (λ (h : Search). walked h old.read hits2 stack2 (drop (suc i) records) taken2) (sym searches)
       ∙ ap (λ (read : Read). walked g read hits2 stack2 (drop (suc i) records) taken2) (sym same.read)
-      ∙ sym (step (same.tells ∙ tells) (drop (suc i) records)) ∙ here tells
+      ∙ sym (step (same.is_known ∙ is_known) (drop (suc i) records)) ∙ here is_known
 
   -- the walk stops at this record
   pub way_ends : (new : Shelf) (v : Verdict) → HasCause mid new v ((rs : List Record) → walked g mid.read hits stack (r ∷ rs) taken ≡ Err v) → HasCause old new v (total ≡ Err v)
   way_ends new v cause =
-      cause_kept old mid new v ((rs : List Record) → walked g mid.read hits stack (r ∷ rs) taken ≡ Err v) (total ≡ Err v) same (λ tells stops. sym (here tells) ∙ stops (drop (suc i) records)) cause
+      cause_kept old mid new v ((rs : List Record) → walked g mid.read hits stack (r ∷ rs) taken ≡ Err v) (total ≡ Err v) same (λ is_known stops. sym (here is_known) ∙ stops (drop (suc i) records)) cause
 
 -- no record is left
 pub way_done : (f : Search) (read : Read) (hits : List Hit) (stack : List Need) (records : List Record) (i taken : ℕ) (total : Result (List Hit) Verdict) → length records ≤ i → length stack ≡ 0

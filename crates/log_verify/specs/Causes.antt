@@ -18,8 +18,8 @@ use Rattle.log_verify.specs.declared.faults.Verdict.TheVariants.{Page, Memory}
 -- log has this fault. `Memory` is a verdict of its own
 abbrev pub HasRefusal : Shelf → Shelf → PageFault → Type 0 → Type 0
 HasRefusal old new pages.Disk Fault = Rose old.faults new.faults
-HasRefusal old new (pages.Bad page fault) Fault = (fault ≢ NodeMemory) × IsWithin old.pages page × (IsTrue old.tells → Fault)
-HasRefusal old new (pages.Outside page) Fault = (is_within old.pages page ≡ false) × (IsTrue old.tells → Fault)
+HasRefusal old new (pages.Bad page fault) Fault = (fault ≢ NodeMemory) × IsWithin old.pages page × (IsTrue old.is_known → Fault)
+HasRefusal old new (pages.Outside page) Fault = (is_within old.pages page ≡ false) × (IsTrue old.is_known → Fault)
 HasRefusal old new pages.Memory Fault = ⊥
 HasRefusal old new (pages.Repeats page) Fault = ⊥
 HasRefusal old new (pages.Level page) Fault = ⊥
@@ -28,7 +28,7 @@ HasRefusal old new (pages.Level page) Fault = ⊥
 abbrev pub HasCause : Shelf → Shelf → Verdict → Type 0 → Type 0
 HasCause old new Memory Fault = Unit {0}
 HasCause old new (Page fault) Fault = HasRefusal old new fault Fault
-HasCause old new _ Fault = IsTrue old.tells → Fault
+HasCause old new _ Fault = IsTrue old.is_known → Fault
 
 -- why a page that the walk needs is refused
 abbrev pub IsPageVerdict : Shelf → Shelf → ℕ → Verdict → Type 0
@@ -58,9 +58,9 @@ IsJoinPageVerdict left left2 right right2 n _ = ⊥
 -- why a verdict on a join's log is given; `Fault` says that it is the log's first fault
 abbrev pub HasJoinCause : Shelf → Shelf → Shelf → Shelf → JoinVerdict → Type 0 → Type 0
 HasJoinCause left left2 right right2 join.Memory Fault = Unit {0}
-HasJoinCause left left2 right right2 (join.Page false fault) Fault = HasRefusal left left2 fault (IsTrue right.tells → Fault)
-HasJoinCause left left2 right right2 (join.Page true fault) Fault = HasRefusal right right2 fault (IsTrue left.tells → Fault)
-HasJoinCause left left2 right right2 _ Fault = IsTrue left.tells → IsTrue right.tells → Fault
+HasJoinCause left left2 right right2 (join.Page false fault) Fault = HasRefusal left left2 fault (IsTrue right.is_known → Fault)
+HasJoinCause left left2 right right2 (join.Page true fault) Fault = HasRefusal right right2 fault (IsTrue left.is_known → Fault)
+HasJoinCause left left2 right right2 _ Fault = IsTrue left.is_known → IsTrue right.is_known → Fault
 
 -- what may come at any time for a join's log: a disk failed, or memory ran out
 abbrev pub IsJoinPassing : JoinVerdict → Type 0

@@ -69,5 +69,5 @@ walk_of s read live log = walked (search_for s log.query log.answers) read [] (r
 abbrev pub log_fault : Space → Read → Live → Log → Option Verdict
 log_fault s read live log =
     if (log.generation == live.generation) && (log.root == live.root)
-    then (if s.fits (query_point log.query) then after_walk log (walk_of s read live log) else Some Point)
+    then (if s.is_point (query_point log.query) then after_walk log (walk_of s read live log) else Some Point)
     else Some (OtherState (log.generation, log.root) (live.generation, live.root))

@@ -3,7 +3,7 @@ ghost use Rattle.page_store.specs.Reading.{nodes_of};
 ghost use Rattle.page_store.specs.Shelf.{HoldsSame};
 ghost use Rattle.metric_laws.specs.Counts.{CountsUpTo};
 ghost use Rattle.log_model.specs.Counts.{join_measured};
-ghost use Rattle.log_model.specs.Grammar.{IsLawfulJoinLog};
+ghost use Rattle.log_model.specs.Grammar.{IsValidJoinLog};
 ghost use Rattle.log_model.specs.SoundJoin.{IsSoundJoinLog};
 ghost use Rattle.log_verify.specs.JoinJudged.{join_fault};
 ghost use Rattle.log_verify.specs.Causes.{HasJoinCause, IsJoinPassing, AskBothUpTo};
@@ -25,7 +25,7 @@ use tree_shape::Live;
 /// marks and the marks; then a record that is left over; then the first answer that differs.
 ///
 /// It asks for at most one page for each record, of either side, and computes at most one distance for each mark that isn't Skip.
-/// Clauses: what is asked of the caller (`lawful`); the answer (`records`, `faultless`, `sound`); what stays (`metric`, `left_same`,
+/// Clauses: what is asked of the caller (`valid`); the answer (`records`, `faultless`, `sound`); what stays (`metric`, `left_same`,
 /// `left_keeps`, `right_same`, `right_keeps`); the cost (`few_asked`, `few_counted`); the cause of an error (`cause`, `complete`); faults
 /// of the devices (`left_no_fault`, `right_no_fault`).
 /// Arguments: `left` and `right` are the pages of the two trees, `ll` and `lr` their live slots, and `ruler` measures for both.
@@ -38,7 +38,7 @@ pub fn verify_join<P: Pages, Q: Pages, R: Ruler>(
     lr: &Live,
     log: &JoinLog,
 ) -> Result<Accepted, JoinVerdict>
-    requires lawful { IsLawfulJoinLog log.now }
+    requires valid { IsValidJoinLog log.now }
     ensures metric { R.metric ruler.new ≡ R.metric ruler.old }
     ensures left_same { HoldsSame (P.shelf left.old) (P.shelf left.new) }
     ensures left_keeps { P.keeps left.old left.new }
@@ -48,16 +48,16 @@ pub fn verify_join<P: Pages, Q: Pages, R: Ruler>(
     ensures right_no_fault { OnOk result ((Q.shelf right.new).faults ≡ (Q.shelf right.old).faults) }
 
     ensures records { IfOk result (λ accepted. accepted.records ≡ length log.now.records) }
-    ensures faultless { OnOk result (IsTrue (P.shelf left.old).tells → IsTrue (Q.shelf right.old).tells →
+    ensures faultless { OnOk result (IsTrue (P.shelf left.old).is_known → IsTrue (Q.shelf right.old).is_known →
         join_fault (R.M.space (R.metric ruler.old)) (P.shelf left.old).read (Q.shelf right.old).read ll.now lr.now log.now ≡ None) }
-    ensures sound { OnOk result (IsTrue (P.shelf left.old).tells → IsTrue (Q.shelf right.old).tells →
+    ensures sound { OnOk result (IsTrue (P.shelf left.old).is_known → IsTrue (Q.shelf right.old).is_known →
         IsSoundJoinLog (R.M.space (R.metric ruler.old)) (nodes_of (P.shelf left.old).read) (nodes_of (Q.shelf right.old).read)
         ll.now lr.now log.now) }
     // The verdict is the first fault.
     ensures cause { IfErr result (λ v. HasJoinCause (P.shelf left.old) (P.shelf left.new) (Q.shelf right.old) (Q.shelf right.new) v
         (join_fault (R.M.space (R.metric ruler.old)) (P.shelf left.old).read (Q.shelf right.old).read ll.now lr.now log.now ≡ Some v)) }
     // A sound log is accepted, unless a disk fails or memory runs out.
-    ensures complete { IfErr result (λ v. IsTrue (P.shelf left.old).tells → IsTrue (Q.shelf right.old).tells →
+    ensures complete { IfErr result (λ v. IsTrue (P.shelf left.old).is_known → IsTrue (Q.shelf right.old).is_known →
         IsSoundJoinLog (R.M.space (R.metric ruler.old)) (nodes_of (P.shelf left.old).read)
         (nodes_of (Q.shelf right.old).read) ll.now lr.now log.now → IsJoinPassing v) }
 

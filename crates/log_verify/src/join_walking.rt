@@ -69,7 +69,7 @@ fn node_at<P: Pages>(alloc: Global, pages: &mut P, page: u32) -> Result<SharedNo
     ensures keeps { P.keeps pages.old pages.new }
     ensures no_fault { OnOk result ((P.shelf pages.new).faults ≡ (P.shelf pages.old).faults) }
     ensures few { IfOk result (λ node. entry_count node < 2 ^ 32) }
-    ensures told { IfOk result (λ node. IsTrue (P.shelf pages.old).tells → (P.shelf pages.old).read page ≡ Ok node) }
+    ensures told { IfOk result (λ node. IsTrue (P.shelf pages.old).is_known → (P.shelf pages.old).read page ≡ Ok node) }
     ensures cause { IfErr result (λ fault. IsNodeFault (P.shelf pages.old) (P.shelf pages.new) page fault) }
     ensures asked { (P.shelf pages.new).asked ≡ next_count (P.shelf pages.old).asked }
     ensures reads { (P.shelf pages.new).reads ≤ (P.shelf pages.old).reads + 1 }
@@ -104,7 +104,7 @@ fn opened_node<P: Pages, Q: Pages>(
     ensures right_keeps { Q.keeps right.old right.new }
     ensures right_no_fault { OnOk result ((Q.shelf right.new).faults ≡ (Q.shelf right.old).faults) }
     ensures few { IfOk result (λ node. entry_count node < 2 ^ 32) }
-    ensures told { IfOk result (λ node. IsTrue (P.shelf left.old).tells → IsTrue (Q.shelf right.old).tells →
+    ensures told { IfOk result (λ node. IsTrue (P.shelf left.old).is_known → IsTrue (Q.shelf right.old).is_known →
         read_of (P.shelf left.old).read (Q.shelf right.old).read (opens_right need.now) (page_of (opened need.now)) ≡ Ok node) }
     ensures cause { IfErr result (λ v.
         IsJoinPageVerdict (P.shelf left.old) (P.shelf left.new) (Q.shelf right.old) (Q.shelf right.new) need.now v) }
@@ -147,7 +147,7 @@ fn take_record<P: Pages, Q: Pages, R: Ruler>(
     ensures right_no_fault { OnOk result ((Q.shelf right.new).faults ≡ (Q.shelf right.old).faults) }
     ensures rho { walk.new.rho ≡ walk.old.rho }
     ensures taken { OnOk result (walk.new.taken ≡ walk.old.taken + 1) }
-    ensures ok { OnOk result (IsTrue (P.shelf left.old).tells → IsTrue (Q.shelf right.old).tells → (rs : List JoinRecord) →
+    ensures ok { OnOk result (IsTrue (P.shelf left.old).is_known → IsTrue (Q.shelf right.old).is_known → (rs : List JoinRecord) →
         join_walked (search_within (R.M.space (R.metric ruler.old)) walk.old.rho) (P.shelf left.old).read
         (Q.shelf right.old).read walk.old.named.hits.items (reverse walk.old.stack.items) (told.now ∷ rs) walk.old.taken
         ≡ join_walked (search_within (R.M.space (R.metric ruler.old)) walk.old.rho) (P.shelf left.old).read
@@ -209,7 +209,7 @@ pub fn walk_records<P: Pages, Q: Pages, R: Ruler>(
     ensures right_same { HoldsSame (Q.shelf right.old) (Q.shelf right.new) }
     ensures right_keeps { Q.keeps right.old right.new }
     ensures right_no_fault { OnOk result ((Q.shelf right.new).faults ≡ (Q.shelf right.old).faults) }
-    ensures ok { IfOk result (λ hits. IsTrue (P.shelf left.old).tells → IsTrue (Q.shelf right.old).tells →
+    ensures ok { IfOk result (λ hits. IsTrue (P.shelf left.old).is_known → IsTrue (Q.shelf right.old).is_known →
         join_walked (search_within (R.M.space (R.metric ruler.old)) begun.rho) (P.shelf left.old).read
         (Q.shelf right.old).read begun.named.hits.items (reverse begun.stack.items) records.now 0 ≡ Ok hits.items) }
     ensures cause { IfErr result (λ v. HasJoinCause (P.shelf left.old) (P.shelf left.new) (Q.shelf right.old) (Q.shelf right.new) v

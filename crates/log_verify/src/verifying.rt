@@ -3,7 +3,7 @@ ghost use Rattle.page_store.specs.Reading.{nodes_of};
 ghost use Rattle.page_store.specs.Shelf.{HoldsSame};
 ghost use Rattle.metric_laws.specs.Counts.{count_up, CountsUpTo};
 ghost use Rattle.log_model.specs.Counts.{measured};
-ghost use Rattle.log_model.specs.Grammar.{IsLawfulLog};
+ghost use Rattle.log_model.specs.Grammar.{IsValidLog};
 ghost use Rattle.log_model.specs.Sound.{IsSoundLog};
 ghost use Rattle.log_verify.specs.Judged.{log_fault};
 ghost use Rattle.log_verify.specs.Causes.{HasCause, IsPassing};
@@ -26,7 +26,7 @@ use tree_shape::Live;
 ///
 /// It asks for at most one page for each record, and computes at most one distance for each mark that isn't Skip. `Page` with
 /// `PageFault::Disk` comes where the disk failed.
-/// Clauses: what is asked of the caller (`lawful`); the answer (`records`, `faultless`, `sound`); what stays (`metric`, `same`, `keeps`);
+/// Clauses: what is asked of the caller (`valid`); the answer (`records`, `faultless`, `sound`); what stays (`metric`, `same`, `keeps`);
 /// the cost (`asked`, `few_asked`, `reads`, `counted`, `few_counted`); the cause of an error (`cause`, `complete`); faults of the devices
 /// (`no_fault`).
 pub fn verify<P: Pages, R: Ruler>(
@@ -36,23 +36,23 @@ pub fn verify<P: Pages, R: Ruler>(
     live: &Live,
     log: &Log,
 ) -> Result<Accepted, Verdict>
-    requires lawful { IsLawfulLog log.now }
+    requires valid { IsValidLog log.now }
     ensures metric { R.metric ruler.new ≡ R.metric ruler.old }
     ensures same { HoldsSame (P.shelf pages.old) (P.shelf pages.new) }
     ensures keeps { P.keeps pages.old pages.new }
     ensures no_fault { OnOk result ((P.shelf pages.new).faults ≡ (P.shelf pages.old).faults) }
 
     ensures records { IfOk result (λ accepted. accepted.records ≡ length log.now.records) }
-    ensures faultless { OnOk result (IsTrue (P.shelf pages.old).tells →
+    ensures faultless { OnOk result (IsTrue (P.shelf pages.old).is_known →
         log_fault (R.M.space (R.metric ruler.old)) (P.shelf pages.old).read live.now log.now ≡ None) }
-    ensures sound { OnOk result (IsTrue (P.shelf pages.old).tells →
+    ensures sound { OnOk result (IsTrue (P.shelf pages.old).is_known →
         IsSoundLog (R.M.space (R.metric ruler.old)) (nodes_of (P.shelf pages.old).read) live.now log.now) }
     // The verdict is the first fault.
     ensures cause { IfErr result (λ v.
         HasCause (P.shelf pages.old) (P.shelf pages.new) v
         (log_fault (R.M.space (R.metric ruler.old)) (P.shelf pages.old).read live.now log.now ≡ Some v)) }
     // A sound log is accepted, unless the disk fails or memory runs out.
-    ensures complete { IfErr result (λ v. IsTrue (P.shelf pages.old).tells →
+    ensures complete { IfErr result (λ v. IsTrue (P.shelf pages.old).is_known →
         IsSoundLog (R.M.space (R.metric ruler.old)) (nodes_of (P.shelf pages.old).read) live.now log.now → IsPassing v) }
 
     // The cost.
@@ -69,7 +69,7 @@ pub fn verify<P: Pages, R: Ruler>(
         });
     }
     let point = point_of(&log.query);
-    if !ruler.fits(point) {
+    if !ruler.is_point(point) {
         return Err(Verdict::Point);
     }
     let probe = Probe {

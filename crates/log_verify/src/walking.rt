@@ -71,7 +71,7 @@ fn node_at<P: Pages>(alloc: Global, pages: &mut P, page: u32) -> Result<SharedNo
     ensures asked { (P.shelf pages.new).asked ≡ next_count (P.shelf pages.old).asked }
     ensures reads { (P.shelf pages.new).reads ≤ (P.shelf pages.old).reads + 1 }
     ensures few { IfOk result (λ node. entry_count node < 2 ^ 32) }
-    ensures told { IfOk result (λ node. IsTrue (P.shelf pages.old).tells → (P.shelf pages.old).read page ≡ Ok node) }
+    ensures told { IfOk result (λ node. IsTrue (P.shelf pages.old).is_known → (P.shelf pages.old).read page ≡ Ok node) }
     ensures cause { IfErr result (λ v. IsPageVerdict (P.shelf pages.old) (P.shelf pages.new) page v) }
 {
     match pages.node(alloc, page) {
@@ -136,7 +136,7 @@ fn take_record<P: Pages, R: Ruler>(
     ensures counted { OnOk result (R.used ruler.new ≡ count_up (R.used ruler.old) (measured_by told.now.marks)) }
     ensures few_counted { CountsUpTo (R.used ruler.old) (R.used ruler.new) (measured_by told.now.marks) }
     ensures taken { OnOk result (walk.new.taken ≡ walk.old.taken + 1) }
-    ensures ok { OnOk result (IsTrue (P.shelf pages.old).tells → (rs : List Record) →
+    ensures ok { OnOk result (IsTrue (P.shelf pages.old).is_known → (rs : List Record) →
         walked (search_at (R.M.space (R.metric ruler.old)) probe.entry.q.now probe.entry.rho)
         (P.shelf pages.old).read walk.old.hits.items (reverse walk.old.stack.items) (told.now ∷ rs) walk.old.taken
         ≡ walked (search_at (R.M.space (R.metric ruler.old)) probe.entry.q.now probe.entry.rho)
@@ -188,7 +188,7 @@ pub fn walk_records<P: Pages, R: Ruler>(
     ensures reads { (P.shelf pages.new).reads ≤ (P.shelf pages.old).reads + length records.now }
     ensures counted { OnOk result (R.used ruler.new ≡ count_up (R.used ruler.old) (measured records.now)) }
     ensures few_counted { CountsUpTo (R.used ruler.old) (R.used ruler.new) (measured records.now) }
-    ensures ok { IfOk result (λ hits. IsTrue (P.shelf pages.old).tells →
+    ensures ok { IfOk result (λ hits. IsTrue (P.shelf pages.old).is_known →
         walked (search_at (R.M.space (R.metric ruler.old)) probe.entry.q.now probe.entry.rho) (P.shelf pages.old).read []
         (root_need root ∷ []) records.now 0 ≡ Ok hits.items) }
     ensures cause { IfErr result (λ v. HasCause (P.shelf pages.old) (P.shelf pages.new) v

@@ -47,12 +47,12 @@ impl Metric for Meeting<'_> {
 
     ghost axioms = { λ m. l1_axioms m.plain.dim m.plain.some m.plain.few };
 
-    fn words(&self) -> usize {
-        self.plain.words()
+    fn dimension(&self) -> usize {
+        self.plain.dimension()
     }
 
-    fn fits(&self, p: &[u32]) -> bool {
-        self.plain.fits(p)
+    fn is_point(&self, p: &[u32]) -> bool {
+        self.plain.is_point(p)
     }
 
     fn dist(&self, a: &[u32], b: &[u32]) -> u64 {

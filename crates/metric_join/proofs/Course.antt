@@ -17,15 +17,15 @@ pub record IsTouring (live : Live) (old now : Shelf) (opened : ℕ) (left : List
   pub holds : HoldsSame old now
   pub asked : now.asked ≡ count_up old.asked opened
   pub low : opened ≤ live.pages
-  pub walk : IsTrue old.tells → (os : List ℕ) × Tours (nodes_of old.read) (live.root ∷ []) os left × (length os ≡ opened)
+  pub walk : IsTrue old.is_known → (os : List ℕ) × Tours (nodes_of old.read) (live.root ∷ []) os left × (length os ≡ opened)
 
 pub tour_begins : (live : Live) (old : Shelf) (stack : List ℕ) → stack ≡ live.root ∷ [] → IsTouring live old old 0 (reverse stack)
-tour_begins live old stack one = rw one (record { holds = holds_none old; asked = refl; low = omega arith; walk = λ tells. ([], refl, refl) })
+tour_begins live old stack one = rw one (record { holds = holds_none old; asked = refl; low = omega arith; walk = λ is_known. ([], refl, refl) })
 
 module _ (live : Live) (old now : Shelf) (opened page : ℕ) (rest stack : List ℕ) (top : stack ≡ page ∷ rest) (way : IsTouring live old now opened stack) where
-  on_top : (IsTrue old.tells) → (os : List ℕ) × Tours (nodes_of old.read) (live.root ∷ []) os (page ∷ rest) × (length os ≡ opened)
-  on_top tells =
-      let w = way.walk tells in
+  on_top : (IsTrue old.is_known) → (os : List ℕ) × Tours (nodes_of old.read) (live.root ∷ []) os (page ∷ rest) × (length os ≡ opened)
+  on_top is_known =
+      let w = way.walk is_known in
       (w.0, subst (λ (l : List ℕ). Tours (nodes_of old.read) (live.root ∷ []) w.0 l) top w.1, w.2)
 
   pub tour_step : (next : Shelf) (opened2 : ℕ) (stack2 : List ℕ) → opened < live.pages → opened2 ≡ opened + 1 → HoldsSame now next → OpensPage now next page rest stack2 → IsTouring live old next opened2 stack2
@@ -33,18 +33,18 @@ module _ (live : Live) (old now : Shelf) (opened page : ℕ) (rest stack : List 
     holds = holds_both old now next way.holds same;
     asked = opens.asked ∙ ap next_count way.asked ∙ count_up_more old.asked opened ∙ ap (count_up old.asked) (let e : suc opened ≡ opened2 = omega (arith, more) in e);
     low = omega (arith, more, low);
-    walk = λ tells.
-        let w = on_top tells in (
+    walk = λ is_known.
+        let w = on_top is_known in (
           w.0 ++ page ∷ [],
           subst (λ (l : List ℕ). Tours (nodes_of old.read) (live.root ∷ []) (w.0 ++ page ∷ []) l) (sym opens.pushed)
-              (tours_more (nodes_of old.read) (live.root ∷ []) w.0 page rest opens.node (told_then old now page opens.node way.holds opens.is tells) w.1),
+              (tours_more (nodes_of old.read) (live.root ∷ []) w.0 page rest opens.node (told_then old now page opens.node way.holds opens.is is_known) w.1),
           (let l = length-append w.0 (page ∷ []) in let k = w.2 in omega (arith, more)),
         );
   }
 
-  names_here : IsTrue old.tells → Names (nodes_of old.read) live.root opened page
-  names_here tells =
-      let w = on_top tells in
+  names_here : IsTrue old.is_known → Names (nodes_of old.read) live.root opened page
+  names_here is_known =
+      let w = on_top is_known in
       record { before = w.0; rest = rest; walk = w.1; count = w.2 }
 
   pub tour_cause : (next : Shelf) (fault : PageFault) → opened < live.pages → HasPageCause now next page fault → HasTourCause live old next fault
@@ -54,7 +54,7 @@ module _ (live : Live) (old now : Shelf) (opened page : ℕ) (rest stack : List 
   pub tour_repeats : opened ≡ live.pages → HasTourCause live old now (Repeats page)
   tour_repeats all = (
     way.asked ∙ ap (count_up old.asked) all,
-    λ tells. subst (λ (n : ℕ). Names (nodes_of old.read) live.root n page) all (names_here tells),
+    λ is_known. subst (λ (n : ℕ). Names (nodes_of old.read) live.root n page) all (names_here is_known),
   )
 
 -- nothing is left to open
@@ -62,16 +62,16 @@ pub tour_ends : (live : Live) (old now : Shelf) (opened : ℕ) (stack : List ℕ
 tour_ends live old now opened stack none way = record {
   opened = opened;
   few = way.low;
-  whole = λ tells.
-      let w = way.walk tells in
+  whole = λ is_known.
+      let w = way.walk is_known in
       (w.0, subst (λ (l : List ℕ). Tours (nodes_of old.read) (live.root ∷ []) w.0 l) none w.1, w.2);
   asked = way.asked ∙ ap (count_up old.asked) (let e : opened ≡ opened + 0 = omega arith in e);
 }
 
 -- a whole walk as one that has room enough
-pub toured_of : (live : Live) (old new : Shelf) (further : ℕ) → IsWalked live old new further → IsTrue old.tells → IsToured (nodes_of old.read) live
-toured_of live old new further walked tells =
-    let w = walked.whole tells in
+pub toured_of : (live : Live) (old new : Shelf) (further : ℕ) → IsWalked live old new further → IsTrue old.is_known → IsToured (nodes_of old.read) live
+toured_of live old new further walked is_known =
+    let w = walked.whole is_known in
     let low = walked.few in
     let long = w.2 in
     record { pages = w.0; walk = w.1; few = omega arith }

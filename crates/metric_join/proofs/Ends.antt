@@ -30,9 +30,9 @@ use Rattle.metric_join.specs.Steps.{IsUnderWay, HasSideStop, HasWalkCause}
 use Rattle.metric_join.proofs.Course.{toured_of}
 
 -- pages that hold the same tell the same
-toured_then : (live : Live) (old now : Shelf) → HoldsSame old now → IsWalked live old now 0 → IsTrue now.tells → IsToured (nodes_of now.read) live
-toured_then live old now holds walked tells =
-    subst (λ (read : Read). IsToured (nodes_of read) live) (sym holds.read) (toured_of live old now 0 walked (subst (λ (b : Bool). IsTrue b) holds.tells tells))
+toured_then : (live : Live) (old now : Shelf) → HoldsSame old now → IsWalked live old now 0 → IsTrue now.is_known → IsToured (nodes_of now.read) live
+toured_then live old now holds walked is_known =
+    subst (λ (read : Read). IsToured (nodes_of read) live) (sym holds.read) (toured_of live old now 0 walked (subst (λ (b : Bool). IsTrue b) holds.is_known is_known))
 
 pub walk_begins : (j : JoinSearch) (l r : Live) (left0 left right0 right : Shelf) (used : ℕ) (records : List JoinRecord) (hits : List Pair) (stack : List Waiting) →
     HoldsSame left0 left → HoldsSame right0 right → IsWalked l left0 left 0 → IsWalked r right0 right 0 →
@@ -79,7 +79,7 @@ module _ (s : Space) (l r : Live) (radius : ℕ) (left0 left1 left2 right0 right
     left_is = left;
     right_is = right;
     radius_is = radius_is;
-    lawful = record {
+    valid = record {
       answers_ascend = rw answers (ascending_pairs (in_order pair_before hits) (rising-in_order pair_before pair_order hits));
       few_answers = few.0;
       few_records = few.1;
@@ -87,7 +87,7 @@ module _ (s : Space) (l r : Live) (radius : ℕ) (left0 left1 left2 right0 right
     };
   }
 
-  least_is : IsTrue left0.tells → IsTrue right0.tells → IsLeastJoinLog s (nodes_of left0.read) (nodes_of right0.read) l r radius joined.log
+  least_is : IsTrue left0.is_known → IsTrue right0.is_known → IsLeastJoinLog s (nodes_of left0.read) (nodes_of right0.read) l r radius joined.log
   least_is told_left told_right = (
     radius_is,
     record {
@@ -107,7 +107,7 @@ module _ (s : Space) (l r : Live) (radius : ℕ) (left0 left1 left2 right0 right
       whole =
           subst (λ (rs : List JoinRecord). JoinWalksBy JoinLeast (search_within s (min radius bound)) (nodes_of left1.read) (nodes_of right1.read) (root_pair l r ∷ []) rs hits) (append-nil records)
           (subst (λ (hs : List Pair). JoinWalksBy JoinLeast (search_within s (min radius bound)) (nodes_of left1.read) (nodes_of right1.read) (root_pair l r ∷ []) (records ++ []) hs) (append-nil hits)
-          (way.walk (rw left_same.tells told_left) (rw right_same.tells told_right) [] [] refl))
+          (way.walk (rw left_same.is_known told_left) (rw right_same.is_known told_right) [] [] refl))
 
   used_is : CountsUpTo used used2 (join_measured joined.log.records)
   used_is = rw records_are way.used_up
@@ -152,13 +152,13 @@ right_refused l r left0 left1 right0 right1 (pages.Level p) walked cause = (caus
 -- the walk of pairs is refused
 side_refused : (live : Live) (old mid new : Shelf) (fault : PageFault) → HoldsSame old mid → IsWalked live old mid 0 → HasSideStop live mid new fault → HasSideCause live old new fault
 side_refused live old mid new pages.Disk holds walked stop = (let l = holds.faults in let c = stop in omega arith)
-side_refused live old mid new (pages.Bad p f) holds walked stop = (stop.0, subst (λ (n : ℕ). IsWithin n p) holds.pages stop.1, λ tells. absurd (stop.2 (rw holds.tells tells)))
-side_refused live old mid new (pages.Outside p) holds walked stop = (subst (λ (n : ℕ). is_within n p ≡ false) holds.pages stop.0, λ tells. absurd (stop.1 (rw holds.tells tells)))
+side_refused live old mid new (pages.Bad p f) holds walked stop = (stop.0, subst (λ (n : ℕ). IsWithin n p) holds.pages stop.1, λ is_known. absurd (stop.2 (rw holds.is_known is_known)))
+side_refused live old mid new (pages.Outside p) holds walked stop = (subst (λ (n : ℕ). is_within n p ≡ false) holds.pages stop.0, λ is_known. absurd (stop.1 (rw holds.is_known is_known)))
 side_refused live old mid new pages.Memory holds walked stop = absurd stop
 side_refused live old mid new (pages.Repeats p) holds walked stop =
     let further = stop.0 in
-    let never : IsTrue old.tells → ⊥ = λ tells. stop.1 (rw holds.tells tells) in
-    (inr (further.0, further.1, walked_after live old mid new further.0 walked further.2, never), λ tells. absurd (never tells))
+    let never : IsTrue old.is_known → ⊥ = λ is_known. stop.1 (rw holds.is_known is_known) in
+    (inr (further.0, further.1, walked_after live old mid new further.0 walked further.2, never), λ is_known. absurd (never is_known))
 side_refused live old mid new (pages.Level p) holds walked stop = absurd stop
 
 pub walk_refused : (l r : Live) (left0 left1 left2 right0 right1 right2 : Shelf) (fault : JoinFault) → HoldsSame left0 left1 → HoldsSame right0 right1 → IsWalked l left0 left1 0 → IsWalked r right0 right1 0 →
@@ -174,17 +174,17 @@ abbrev PassesSide : PageFault → Type 0
 PassesSide pages.Disk = Unit {0}
 PassesSide _ = ⊥
 
-side_passes : (s : Space) (live : Live) (old new : Shelf) (fault : PageFault) → HasSideCause live old new fault → IsTrue old.tells → IsSoundTree s (nodes_of old.read) live → PassesSide fault
-side_passes s live old new pages.Disk cause tells sound = tt
-side_passes s live old new (pages.Bad p f) cause tells sound = absurd (tour_passes s live old new (pages.Bad p f) cause tells sound)
-side_passes s live old new (pages.Outside p) cause tells sound = absurd (tour_passes s live old new (pages.Outside p) cause tells sound)
-side_passes s live old new pages.Memory cause tells sound = absurd cause
-side_passes s live old new (pages.Repeats p) cause tells sound =
-    let low = (sound_names s (nodes_of old.read) live live.pages p sound (cause.1 tells)).0 in
+side_passes : (s : Space) (live : Live) (old new : Shelf) (fault : PageFault) → HasSideCause live old new fault → IsTrue old.is_known → IsSoundTree s (nodes_of old.read) live → PassesSide fault
+side_passes s live old new pages.Disk cause is_known sound = tt
+side_passes s live old new (pages.Bad p f) cause is_known sound = absurd (tour_passes s live old new (pages.Bad p f) cause is_known sound)
+side_passes s live old new (pages.Outside p) cause is_known sound = absurd (tour_passes s live old new (pages.Outside p) cause is_known sound)
+side_passes s live old new pages.Memory cause is_known sound = absurd cause
+side_passes s live old new (pages.Repeats p) cause is_known sound =
+    let low = (sound_names s (nodes_of old.read) live live.pages p sound (cause.1 is_known)).0 in
     absurd (omega (arith, low))
-side_passes s live old new (pages.Level p) cause tells sound = absurd cause
+side_passes s live old new (pages.Level p) cause is_known sound = absurd cause
 
-pub passes : (s : Space) (l r : Live) (left left2 right right2 : Shelf) (fault : JoinFault) → HasJoinCause l r left left2 right right2 fault → IsTrue left.tells → IsTrue right.tells →
+pub passes : (s : Space) (l r : Live) (left left2 right right2 : Shelf) (fault : JoinFault) → HasJoinCause l r left left2 right right2 fault → IsTrue left.is_known → IsTrue right.is_known →
     IsSoundTree s (nodes_of left.read) l → IsSoundTree s (nodes_of right.read) r → IsPassing fault
 passes s l r left left2 right right2 join.Memory cause told_left told_right left_sound right_sound = tt
 passes s l r left left2 right right2 (join.Left fault) cause told_left told_right left_sound right_sound = cases fault (side_passes s l left left2 fault cause told_left left_sound)

@@ -8,7 +8,7 @@ use Rattle.metric_laws.proofs.Published.{all_append, all_weaker}
 use Rattle.scan_model.specs.declared.hit.Pair.{Pair}
 use Rattle.tree_shape.specs.declared.live.Live.{Live}
 use Rattle.tree_shape.specs.declared.entry.Node.{Node}
-use Rattle.node_page.specs.Nodes.{IsLawfulNode}
+use Rattle.node_page.specs.Nodes.{IsValidNode}
 use Rattle.page_store.specs.Reading.{nodes_of}
 use Rattle.page_store.specs.Shelf.{Shelf, HoldsSame, IsNodeOf}
 use Rattle.log_model.specs.declared.marks.Mark.{Mark}
@@ -57,7 +57,7 @@ module _ (j : JoinSearch) (l r : Live) (left1 left left2 right1 right right2 : S
     pub has_room : 1 ≤ room_on w b
     pub few : length (entries_of node) ≤ 32
     pub stand : (es : List Entry) → es ≡ entries_of node → AllByRecursion (λ e. IsStanding (shelf_on left1 right1 b) e.item (room_on w b - 1)) es
-    pub told : IsTrue (shelf_on left1 right1 b).tells → nodes_of (shelf_on left1 right1 b).read (page_of (opened w.need)) ≡ Some node
+    pub told : IsTrue (shelf_on left1 right1 b).is_known → nodes_of (shelf_on left1 right1 b).read (page_of (opened w.need)) ≡ Some node
 
   one_more : (now next old n : ℕ) → next ≡ next_count now → now ≡ count_up old n → next ≡ count_up old (n + 1)
   one_more now next old n more so_far = more ∙ ap next_count so_far ∙ count_up_more old n ∙ ap (count_up old) (let e : suc n ≡ n + 1 = omega arith in e)
@@ -69,11 +69,11 @@ module _ (j : JoinSearch) (l r : Live) (left1 left left2 right1 right right2 : S
       (es : List Entry) → es ≡ entries_of node → AllByRecursion (λ e. IsStanding (shelf_on left1 right1 b) e.item (room_on w b - 1)) es
   stands b opens dim is holds es same =
       rw same
-      (entries_stand (shelf_on left1 right1 b) (room_on w b - 1) (shelf_on left right b).dim node is.lawful
-      (λ tells. whole_below (nodes_of (shelf_on left1 right1 b).read) (page_of (opened_side w.need b)) (room_on w b) node
-      (opened_whole l r left1 right1 (opened_on false records) (opened_on true records) w waiting b opens tells)
+      (entries_stand (shelf_on left1 right1 b) (room_on w b - 1) (shelf_on left right b).dim node is.valid
+      (λ is_known. whole_below (nodes_of (shelf_on left1 right1 b).read) (page_of (opened_side w.need b)) (room_on w b) node
+      (opened_whole l r left1 right1 (opened_on false records) (opened_on true records) w waiting b opens is_known)
       (subst (λ (c : Bool). nodes_of (shelf_on left1 right1 b).read (page_of (opened_side w.need c)) ≡ Some node) opens
-      (told_then (shelf_on left1 right1 b) (shelf_on left right b) (page_of (opened w.need)) node holds is tells))))
+      (told_then (shelf_on left1 right1 b) (shelf_on left right b) (page_of (opened w.need)) node holds is is_known))))
 
   asked_on : (b : Bool) → opens_right w.need ≡ b → Asked b
   asked_on false opens =
@@ -83,7 +83,7 @@ module _ (j : JoinSearch) (l r : Live) (left1 left left2 right1 right right2 : S
         left_asked = one_more left.asked left2.asked left1.asked (opened_on false records) o.asked before.left_asked;
         right_asked = no_more right.asked right2.asked right1.asked (opened_on true records) (ap (λ (s : Shelf). s.asked) o.alone) before.right_asked;
         has_room = o.has_room;
-        few = entries_few left.dim node o.is.lawful;
+        few = entries_few left.dim node o.is.valid;
         stand = stands false opens left.dim o.is before.left_holds;
         told = told_then left1 left (page_of (opened w.need)) node before.left_holds o.is;
       }
@@ -94,7 +94,7 @@ module _ (j : JoinSearch) (l r : Live) (left1 left left2 right1 right right2 : S
         left_asked = no_more left.asked left2.asked left1.asked (opened_on false records) (ap (λ (s : Shelf). s.asked) o.alone) before.left_asked;
         right_asked = one_more right.asked right2.asked right1.asked (opened_on true records) o.asked before.right_asked;
         has_room = o.has_room;
-        few = entries_few right.dim node o.is.lawful;
+        few = entries_few right.dim node o.is.valid;
         stand = stands true opens right.dim o.is before.right_holds;
         told = told_then right1 right (page_of (opened w.need)) node before.right_holds o.is;
       }
@@ -102,10 +102,10 @@ module _ (j : JoinSearch) (l r : Live) (left1 left left2 right1 right right2 : S
   asked : Asked (opens_right w.need)
   asked = asked_on (opens_right w.need) refl
 
-  node_is : IsTrue left1.tells → IsTrue right1.tells → side_of (nodes_of left1.read) (nodes_of right1.read) (opens_right w.need) (page_of (opened w.need)) ≡ Some node
+  node_is : IsTrue left1.is_known → IsTrue right1.is_known → side_of (nodes_of left1.read) (nodes_of right1.read) (opens_right w.need) (page_of (opened w.need)) ≡ Some node
   node_is told_left told_right = cases (opens_right w.need) asked.told
     where
-      cases : (b : Bool) → (IsTrue (shelf_on left1 right1 b).tells → nodes_of (shelf_on left1 right1 b).read (page_of (opened w.need)) ≡ Some node) →
+      cases : (b : Bool) → (IsTrue (shelf_on left1 right1 b).is_known → nodes_of (shelf_on left1 right1 b).read (page_of (opened w.need)) ≡ Some node) →
           side_of (nodes_of left1.read) (nodes_of right1.read) b (page_of (opened w.need)) ≡ Some node
       cases true told = told told_right
       cases false told = told told_left
@@ -153,7 +153,7 @@ module _ (j : JoinSearch) (l r : Live) (left1 left left2 right1 right right2 : S
     same_hits : os ≡ join_hits j w.need node marks
     same_hits = hits_are ∙ ap (λ (ms : List Mark). hits_among (map (with_entry j.space w.need) (near_ones (entries_of node) ms))) (sym marks_are)
 
-    walks_on : IsTrue left1.tells → IsTrue right1.tells → (rs : List JoinRecord) (hs : List Pair) →
+    walks_on : IsTrue left1.is_known → IsTrue right1.is_known → (rs : List JoinRecord) (hs : List Pair) →
         JoinWalksBy JoinLeast j (nodes_of left1.read) (nodes_of right1.read) (needs_in (map (following w) ns ++ rest)) rs hs →
         JoinWalksBy JoinLeast j (nodes_of left1.read) (nodes_of right1.read) (root_pair l r ∷ []) ((records ++ made ∷ []) ++ rs) ((hits ++ os) ++ hs)
     walks_on told_left told_right rs hs walk =
@@ -205,9 +205,9 @@ pub lighter_now : (j : JoinSearch) (left left2 right right2 : Shelf) (w : Waitin
     ns ≡ needs_among (pairs_for j w.need (entries_of node)) → weight (map (following w) ns ++ rest) < weight_of w + weight rest
 lighter_now j left left2 right right2 w rest node opens_node ns are = cases (opens_right w.need) refl
   where
-    few : (dim : ℕ) → IsLawfulNode dim node → length ns ≤ 32
-    few dim lawful = rw are (let least = needs_few j w.need (entries_of node) in let most = entries_few dim node lawful in omega arith)
+    few : (dim : ℕ) → IsValidNode dim node → length ns ≤ 32
+    few dim valid = rw are (let least = needs_few j w.need (entries_of node) in let most = entries_few dim node valid in omega arith)
 
     cases : (b : Bool) → opens_right w.need ≡ b → weight (map (following w) ns ++ rest) < weight_of w + weight rest
-    cases false opens = let o = opens_node.0 opens in lighter w false opens o.has_room ns rest (few left.dim o.is.lawful)
-    cases true opens = let o = opens_node.1 opens in lighter w true opens o.has_room ns rest (few right.dim o.is.lawful)
+    cases false opens = let o = opens_node.0 opens in lighter w false opens o.has_room ns rest (few left.dim o.is.valid)
+    cases true opens = let o = opens_node.1 opens in lighter w true opens o.has_room ns rest (few right.dim o.is.valid)

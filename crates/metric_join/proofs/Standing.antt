@@ -12,7 +12,7 @@ use Rattle.tree_shape.specs.declared.entry.LeafEntry.{LeafEntry}
 use Rattle.tree_shape.specs.declared.entry.InnerEntry.{InnerEntry}
 use Rattle.tree_shape.specs.declared.entry.Node.{Node}
 use Rattle.tree_shape.specs.declared.entry.Node.TheVariants.{Leaf, Inner}
-use Rattle.node_page.specs.Nodes.{IsLawfulNode}
+use Rattle.node_page.specs.Nodes.{IsValidNode}
 use Rattle.page_store.specs.Reading.{nodes_of}
 use Rattle.page_store.specs.Shelf.{Shelf}
 use Rattle.log_model.specs.declared.marks.Mark.{Mark}
@@ -31,15 +31,15 @@ use Rattle.metric_join.specs.Steps.{following, weight, weight_of, needs_in, mark
 -- the opened item of a pair that is needed is a subtree, and the walk from it is whole
 
 module _ (left right : Shelf) (lroom rroom : ℕ) where
-  whole_left : (a b : Item) → IsTrue (not (is_object a && is_object b)) → IsStanding left a lroom → IsStanding right b rroom → nat_lt (rank_of a) (rank_of b) ≡ false → IsTrue left.tells →
+  whole_left : (a b : Item) → IsTrue (not (is_object a && is_object b)) → IsStanding left a lroom → IsStanding right b rroom → nat_lt (rank_of a) (rank_of b) ≡ false → IsTrue left.is_known →
       IsWhole (nodes_of left.read) (page_of a) lroom
-  whole_left (Subtree page rank centre radius) b need sa sb opens tells = sa.1 tells
-  whole_left (Object id point) (Subtree page rank centre radius) need sa sb opens tells = let some = sb.0 in absurd (let e : ⊥ = grind (arith, nat_tests) in e)
-  whole_left (Object id point) (Object id2 point2) need sa sb opens tells = absurd (cc)
+  whole_left (Subtree page rank centre radius) b need sa sb opens is_known = sa.1 is_known
+  whole_left (Object id point) (Subtree page rank centre radius) need sa sb opens is_known = let some = sb.0 in absurd (let e : ⊥ = grind (arith, nat_tests) in e)
+  whole_left (Object id point) (Object id2 point2) need sa sb opens is_known = absurd (cc)
 
-  whole_right : (a b : Item) → IsStanding right b rroom → nat_lt (rank_of a) (rank_of b) ≡ true → IsTrue right.tells → IsWhole (nodes_of right.read) (page_of b) rroom
-  whole_right a (Subtree page rank centre radius) sb opens tells = sb.1 tells
-  whole_right a (Object id point) sb opens tells = absurd (let e : ⊥ = grind (arith, nat_tests) in e)
+  whole_right : (a b : Item) → IsStanding right b rroom → nat_lt (rank_of a) (rank_of b) ≡ true → IsTrue right.is_known → IsWhole (nodes_of right.read) (page_of b) rroom
+  whole_right a (Subtree page rank centre radius) sb opens is_known = sb.1 is_known
+  whole_right a (Object id point) sb opens is_known = absurd (let e : ⊥ = grind (arith, nat_tests) in e)
 
 -- the side and the room of the opened item
 abbrev pub shelf_on : Shelf → Shelf → Bool → Shelf
@@ -49,24 +49,24 @@ abbrev pub room_on : Waiting → Bool → ℕ
 room_on w b = if b then w.right_room else w.left_room
 
 module _ (l r : Live) (left right : Shelf) (lefts rights : ℕ) (w : Waiting) (waits : IsWaiting l r left right lefts rights w) where
-  pub opened_whole : (b : Bool) → opens_right w.need ≡ b → IsTrue (shelf_on left right b).tells → IsWhole (nodes_of (shelf_on left right b).read) (page_of (opened_side w.need b)) (room_on w b)
-  opened_whole false opens tells = whole_left left right w.left_room w.right_room w.need.left w.need.right waits.need waits.left_stands waits.right_stands opens tells
-  opened_whole true opens tells = whole_right left right w.left_room w.right_room w.need.left w.need.right waits.right_stands opens tells
+  pub opened_whole : (b : Bool) → opens_right w.need ≡ b → IsTrue (shelf_on left right b).is_known → IsWhole (nodes_of (shelf_on left right b).read) (page_of (opened_side w.need b)) (room_on w b)
+  opened_whole false opens is_known = whole_left left right w.left_room w.right_room w.need.left w.need.right waits.need waits.left_stands waits.right_stands opens is_known
+  opened_whole true opens is_known = whole_right left right w.left_room w.right_room w.need.left w.need.right waits.right_stands opens is_known
 
 -- the items of a node's entries
 objects_stand : (shelf : Shelf) (room : ℕ) (es : List LeafEntry) → AllByRecursion (λ e. IsStanding shelf e.item room) (map object_entry es)
 objects_stand shelf room [] = tt
 objects_stand shelf room (e ∷ es) = (tt, objects_stand shelf room es)
 
-subtrees_stand : (shelf : Shelf) (room level : ℕ) (es : List InnerEntry) → 1 ≤ level → (IsTrue shelf.tells → AllByRecursion (λ c. IsWhole (nodes_of shelf.read) c room) (map (λ e. e.child) es)) →
+subtrees_stand : (shelf : Shelf) (room level : ℕ) (es : List InnerEntry) → 1 ≤ level → (IsTrue shelf.is_known → AllByRecursion (λ c. IsWhole (nodes_of shelf.read) c room) (map (λ e. e.child) es)) →
     AllByRecursion (λ e. IsStanding shelf e.item room) (map (subtree_entry level) es)
 subtrees_stand shelf room level [] some whole = tt
-subtrees_stand shelf room level (e ∷ es) some whole = ((some, λ tells. (whole tells).0), subtrees_stand shelf room level es some (λ tells. (whole tells).1))
+subtrees_stand shelf room level (e ∷ es) some whole = ((some, λ is_known. (whole is_known).0), subtrees_stand shelf room level es some (λ is_known. (whole is_known).1))
 
-pub entries_stand : (shelf : Shelf) (room dim : ℕ) (node : Node) → IsLawfulNode dim node → (IsTrue shelf.tells → AllByRecursion (λ c. IsWhole (nodes_of shelf.read) c room) (children node)) →
+pub entries_stand : (shelf : Shelf) (room dim : ℕ) (node : Node) → IsValidNode dim node → (IsTrue shelf.is_known → AllByRecursion (λ c. IsWhole (nodes_of shelf.read) c room) (children node)) →
     AllByRecursion (λ e. IsStanding shelf e.item room) (entries_of node)
-entries_stand shelf room dim (Leaf es) lawful whole = objects_stand shelf room es
-entries_stand shelf room dim (Inner level es) lawful whole = subtrees_stand shelf room level es lawful.0 whole
+entries_stand shelf room dim (Leaf es) valid whole = objects_stand shelf room es
+entries_stand shelf room dim (Inner level es) valid whole = subtrees_stand shelf room level es valid.0 whole
 
 -- the pairs that follow
 
@@ -162,13 +162,13 @@ needs_few j n es =
     let three = near_few es (marks_for j n es) in
     omega arith
 
-pub entries_few : (dim : ℕ) (node : Node) → IsLawfulNode dim node → length (entries_of node) ≤ 32
-entries_few dim (Leaf es) lawful =
-    let few = lawful.0 in
+pub entries_few : (dim : ℕ) (node : Node) → IsValidNode dim node → length (entries_of node) ≤ 32
+entries_few dim (Leaf es) valid =
+    let few = valid.0 in
     let same = length-map es object_entry in
     omega arith
-entries_few dim (Inner level es) lawful =
-    let few = lawful.3 in
+entries_few dim (Inner level es) valid =
+    let few = valid.3 in
     let same = length-map es (subtree_entry level) in
     omega arith
 

@@ -22,10 +22,10 @@ use Rattle.metric_join.proofs.Standing.{opened_whole}
 
 -- a page of one side, whose path may go through `room` more nodes
 module _ (live : Live) (old now next : Shelf) (page room asked : ℕ) (holds : HoldsSame old now) (count : now.asked ≡ count_up old.asked asked) (enough : live.pages ≤ room + asked)
-    (whole : IsTrue old.tells → IsWhole (nodes_of old.read) page room) where
-  no_fault : (fault : PageFault) → now.read page ≡ Err fault → IsTrue old.tells → ⊥
-  no_fault fault is tells =
-      let node = whole_opens (nodes_of old.read) page room (whole tells) in
+    (whole : IsTrue old.is_known → IsWhole (nodes_of old.read) page room) where
+  no_fault : (fault : PageFault) → now.read page ≡ Err fault → IsTrue old.is_known → ⊥
+  no_fault fault is is_known =
+      let node = whole_opens (nodes_of old.read) page room (whole is_known) in
       let same = node.1 in
       let none : nodes_of old.read page ≡ None = ap (λ (r : Read). node_or_none (r page)) (sym holds.read) ∙ ap node_or_none is in
       cc
@@ -35,17 +35,17 @@ module _ (live : Live) (old now next : Shelf) (page room asked : ℕ) (holds : H
   side_stop (Bad p fault) passes stop = (
     stop.1,
     subst (λ (n : ℕ). IsWithin n p) holds.pages (subst (λ (k : ℕ). IsWithin now.pages k) (sym stop.0) stop.2),
-    λ tells. no_fault (Bad page fault) (stop.3 (rw holds.tells tells)) tells,
+    λ is_known. no_fault (Bad page fault) (stop.3 (rw holds.is_known is_known)) is_known,
   )
   side_stop (Outside p) passes stop = (
     subst (λ (n : ℕ). is_within n p ≡ false) holds.pages (subst (λ (k : ℕ). is_within now.pages k ≡ false) (sym stop.0) stop.1),
-    λ tells. no_fault (Outside page) (stop.2 (rw holds.tells tells)) tells,
+    λ is_known. no_fault (Outside page) (stop.2 (rw holds.is_known is_known)) is_known,
   )
   side_stop Memory passes stop = absurd (passes refl)
   side_stop (Repeats p) passes stop = (
     (asked, (let none = stop.1 in omega (arith, enough, none)), ap (λ (s : Shelf). s.asked) stop.2 ∙ count),
-    λ tells.
-        let some = (whole_opens (nodes_of old.read) page room (whole tells)).2 in
+    λ is_known.
+        let some = (whole_opens (nodes_of old.read) page room (whole is_known)).2 in
         let none = stop.1 in
         absurd (omega (arith, some, none)),
   )

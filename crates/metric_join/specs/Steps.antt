@@ -63,7 +63,7 @@ weight (w ∷ ws) = weight_of w + weight ws
 
 -- a subtree was named by an inner node, or is a root; the walk from its page is whole within the room that is left
 abbrev pub IsStanding : Shelf → Item → ℕ → Type 0
-IsStanding shelf (Subtree page rank centre radius) room = (1 ≤ rank) × (IsTrue shelf.tells → IsWhole (nodes_of shelf.read) page room)
+IsStanding shelf (Subtree page rank centre radius) room = (1 ≤ rank) × (IsTrue shelf.is_known → IsWhole (nodes_of shelf.read) page room)
 IsStanding shelf (Object id point) room = Unit {0}
 
 -- a waiting pair, when `lefts` and `rights` nodes were opened on the two sides
@@ -84,7 +84,7 @@ pub record IsUnderWay (j : JoinSearch) (l r : Live) (left left2 right right2 : S
   pub used_up : CountsUpTo used used2 (join_measured records)
   pub few_marks : AllByRecursion (λ r. length r.marks ≤ 32) records
   pub waits : AllByRecursion (IsWaiting l r left right (opened_on false records) (opened_on true records)) stack
-  pub walk : IsTrue left.tells → IsTrue right.tells → (rs : List JoinRecord) (hs : List Pair) →
+  pub walk : IsTrue left.is_known → IsTrue right.is_known → (rs : List JoinRecord) (hs : List Pair) →
       JoinWalksBy JoinLeast j (nodes_of left.read) (nodes_of right.read) (needs_in stack) rs hs →
       JoinWalksBy JoinLeast j (nodes_of left.read) (nodes_of right.read) (root_pair l r ∷ []) (records ++ rs) (hits ++ hs)
 
@@ -132,9 +132,9 @@ CountsMarks used used2 old new = (n : ℕ) × (measured_by old + n ≤ measured_
 -- walk was whole
 abbrev pub HasSideStop : Live → Shelf → Shelf → PageFault → Type 0
 HasSideStop live old new pages.Disk = Rose old.faults new.faults
-HasSideStop live old new (pages.Bad page fault) = (fault ≢ NodeMemory) × IsWithin old.pages page × (IsTrue old.tells → ⊥)
-HasSideStop live old new (pages.Outside page) = (is_within old.pages page ≡ false) × (IsTrue old.tells → ⊥)
-HasSideStop live old new (pages.Repeats page) = ((asked : ℕ) × (live.pages ≤ asked) × (new.asked ≡ count_up old.asked asked)) × (IsTrue old.tells → ⊥)
+HasSideStop live old new (pages.Bad page fault) = (fault ≢ NodeMemory) × IsWithin old.pages page × (IsTrue old.is_known → ⊥)
+HasSideStop live old new (pages.Outside page) = (is_within old.pages page ≡ false) × (IsTrue old.is_known → ⊥)
+HasSideStop live old new (pages.Repeats page) = ((asked : ℕ) × (live.pages ≤ asked) × (new.asked ≡ count_up old.asked asked)) × (IsTrue old.is_known → ⊥)
 HasSideStop live old new pages.Memory = ⊥
 HasSideStop live old new (pages.Level page) = ⊥
 

@@ -75,7 +75,7 @@ pub fn join<P: Pages, Q: Pages, R: Ruler>(
     ensures joined { IfOk result (IsJoined (R.M.space (R.metric ruler.old)) ll.now lr.now r (P.shelf left.old) (P.shelf left.new)
         (Q.shelf right.old) (Q.shelf right.new) (R.used ruler.old) (R.used ruler.new)) }
     // On two sound trees the pairs are those of the double loop over the points.
-    ensures scanned { IfOk result (λ joined. IsTrue (P.shelf left.old).tells → IsTrue (Q.shelf right.old).tells →
+    ensures scanned { IfOk result (λ joined. IsTrue (P.shelf left.old).is_known → IsTrue (Q.shelf right.old).is_known →
         IsSoundTree (R.M.space (R.metric ruler.old)) (nodes_of (P.shelf left.old).read) ll.now →
         IsSoundTree (R.M.space (R.metric ruler.old)) (nodes_of (Q.shelf right.old).read) lr.now →
         joined.pairs ≡ join_pairs (R.M.space (R.metric ruler.old)) (points_by_id (nodes_of (P.shelf left.old).read) ll.now)
@@ -83,7 +83,7 @@ pub fn join<P: Pages, Q: Pages, R: Ruler>(
 
     ensures cause { IfErr result (HasJoinCause ll.now lr.now (P.shelf left.old) (P.shelf left.new) (Q.shelf right.old)
         (Q.shelf right.new)) }
-    ensures sound { IfErr result (λ fault. IsTrue (P.shelf left.old).tells → IsTrue (Q.shelf right.old).tells →
+    ensures sound { IfErr result (λ fault. IsTrue (P.shelf left.old).is_known → IsTrue (Q.shelf right.old).is_known →
         IsSoundTree (R.M.space (R.metric ruler.old)) (nodes_of (P.shelf left.old).read) ll.now →
         IsSoundTree (R.M.space (R.metric ruler.old)) (nodes_of (Q.shelf right.old).read) lr.now →
         IsPassing fault) }

@@ -31,8 +31,8 @@ rows_of_push w (suc n) cells p is wide =
 
 -- the list of points after one more
 pub table_push : (w n m : ℕ) (cells more p : List ℕ) (t : Table) →
-    w ≡ t.words → rows_of w n cells ≡ t.points → n * w ≡ length cells → length p ≡ t.words → m ≡ n + 1 → more ≡ cells ++ p →
+    w ≡ t.dimension → rows_of w n cells ≡ t.points → n * w ≡ length cells → length p ≡ t.dimension → m ≡ n + 1 → more ≡ cells ++ p →
     rows_of w m more ≡ t.points ++ p ∷ []
-table_push w n m cells more p t wide points is fits one grown =
+table_push w n m cells more p t wide points is is_point one grown =
     let next : m ≡ suc n = one ∙ add-one n in
-    ap (λ (k : ℕ). rows_of w k more) next ∙ ap (λ (l : List ℕ). rows_of w (suc n) l) grown ∙ rows_of_push w n cells p is (fits ∙ sym wide) ∙ ap (λ (l : List (List ℕ)). l ++ p ∷ []) points
+    ap (λ (k : ℕ). rows_of w k more) next ∙ ap (λ (l : List ℕ). rows_of w (suc n) l) grown ∙ rows_of_push w n cells p is (is_point ∙ sym wide) ∙ ap (λ (l : List (List ℕ)). l ++ p ∷ []) points

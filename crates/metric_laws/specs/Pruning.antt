@@ -25,17 +25,17 @@ capped a b = min (a + b) bound
 -- in every space: an object o within the radius of the centre e is beyond r of the query q
 abbrev pub CentreRulesOut : Type 0
 CentreRulesOut =
-    (s : Space) → IsSpace s → (e o q : List ℕ) → IsTrue (s.fits e) → IsTrue (s.fits o) → IsTrue (s.fits q) →
+    (s : Space) → IsSpace s → (e o q : List ℕ) → IsTrue (s.is_point e) → IsTrue (s.is_point o) → IsTrue (s.is_point q) →
     (r radius : ℕ) → s.dist o e ≤ radius → IsTrue (centre_rules_out (s.dist e q) r radius) → r < s.dist o q
 
 -- the same, where the distances to a routing point p are known
 abbrev pub ParentRulesOut : Type 0
 ParentRulesOut =
-    (s : Space) → IsSpace s → (p e o q : List ℕ) → IsTrue (s.fits p) → IsTrue (s.fits e) → IsTrue (s.fits o) → IsTrue (s.fits q) →
+    (s : Space) → IsSpace s → (p e o q : List ℕ) → IsTrue (s.is_point p) → IsTrue (s.is_point e) → IsTrue (s.is_point o) → IsTrue (s.is_point q) →
     (r radius : ℕ) → s.dist o e ≤ radius → IsTrue (parent_rules_out (s.dist p q) (s.dist e p) r radius) → r < s.dist o q
 
 -- the same of an object x within ra of the centre a and an object y within rb of the centre b
 abbrev pub PairRulesOut : Type 0
 PairRulesOut =
-    (s : Space) → IsSpace s → (a b x y : List ℕ) → IsTrue (s.fits a) → IsTrue (s.fits b) → IsTrue (s.fits x) → IsTrue (s.fits y) →
+    (s : Space) → IsSpace s → (a b x y : List ℕ) → IsTrue (s.is_point a) → IsTrue (s.is_point b) → IsTrue (s.is_point x) → IsTrue (s.is_point y) →
     (r ra rb : ℕ) → s.dist x a ≤ ra → s.dist y b ≤ rb → IsTrue (pair_rules_out (s.dist a b) r ra rb) → r < s.dist x y

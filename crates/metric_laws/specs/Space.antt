@@ -3,8 +3,8 @@ use Rattle.std.specs.Prelude.{◌≡◌, ℕ, ◌+◌, ◌^◌, ◌<◌, ◌≤�
 
 -- how many coordinates a point has, which lists are points, and the distance of two lists
 pub record Space : Type 0 where
-  pub words : ℕ
-  pub fits : List ℕ → Bool
+  pub dimension : ℕ
+  pub is_point : List ℕ → Bool
   pub dist : List ℕ → List ℕ → ℕ
 
 -- the greatest distance
@@ -14,12 +14,12 @@ bound = 2 ^ 38
 -- a point is a list of 1 to 64 numbers of 32 bits, always of the same length; of points the distance is symmetric,
 -- 0 exactly for equal ones, within the triangle inequality and within the bound
 pub record IsSpace (s : Space) : Type 0 where
-  pub some_words : 1 ≤ s.words
-  pub few_words : s.words ≤ 64
-  pub long : (a : List ℕ) → IsTrue (s.fits a) → length a ≡ s.words
-  pub small : (a : List ℕ) → IsTrue (s.fits a) → All (λ x. x < 2 ^ 32) a
-  pub symmetric : (a b : List ℕ) → IsTrue (s.fits a) → IsTrue (s.fits b) → s.dist a b ≡ s.dist b a
-  pub zero_same : (a : List ℕ) → IsTrue (s.fits a) → s.dist a a ≡ 0
-  pub same_zero : (a b : List ℕ) → IsTrue (s.fits a) → IsTrue (s.fits b) → s.dist a b ≡ 0 → a ≡ b
-  pub triangle : (a b c : List ℕ) → IsTrue (s.fits a) → IsTrue (s.fits b) → IsTrue (s.fits c) → s.dist a c ≤ s.dist a b + s.dist b c
-  pub bounded : (a b : List ℕ) → IsTrue (s.fits a) → IsTrue (s.fits b) → s.dist a b ≤ bound
+  pub some_words : 1 ≤ s.dimension
+  pub few_words : s.dimension ≤ 64
+  pub long : (a : List ℕ) → IsTrue (s.is_point a) → length a ≡ s.dimension
+  pub small : (a : List ℕ) → IsTrue (s.is_point a) → All (λ x. x < 2 ^ 32) a
+  pub symmetric : (a b : List ℕ) → IsTrue (s.is_point a) → IsTrue (s.is_point b) → s.dist a b ≡ s.dist b a
+  pub zero_same : (a : List ℕ) → IsTrue (s.is_point a) → s.dist a a ≡ 0
+  pub same_zero : (a b : List ℕ) → IsTrue (s.is_point a) → IsTrue (s.is_point b) → s.dist a b ≡ 0 → a ≡ b
+  pub triangle : (a b c : List ℕ) → IsTrue (s.is_point a) → IsTrue (s.is_point b) → IsTrue (s.is_point c) → s.dist a c ≤ s.dist a b + s.dist b c
+  pub bounded : (a b : List ℕ) → IsTrue (s.is_point a) → IsTrue (s.is_point b) → s.dist a b ≤ bound

@@ -13,12 +13,12 @@ pub trait Metric: Copy + Send + Sync {
     ghost axioms: { (m : Self) → IsSpace (space m) };
 
     /// Returns the number of coordinates of a point, 1 to 64.
-    fn words(&self) -> usize
-        ensures { result ≡ (space self.now).words };
+    fn dimension(&self) -> usize
+        ensures { result ≡ (space self.now).dimension };
 
     /// Returns whether `p` is a point of the space.
-    fn fits(&self, p: &[u32]) -> bool
-        ensures { result ≡ (space self.now).fits p.now };
+    fn is_point(&self, p: &[u32]) -> bool
+        ensures { result ≡ (space self.now).is_point p.now };
 
     /// Returns the distance of `a` and `b`. Of lists that are not points it promises the bound alone.
     fn dist(&self, a: &[u32], b: &[u32]) -> u64

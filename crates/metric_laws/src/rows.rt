@@ -9,7 +9,7 @@ use std::marker::Model;
 #[derive(Drop)]
 pub struct Rows {
     cells: Vec<u32>,
-    words: usize,
+    dimension: usize,
     count: usize,
 }
 
@@ -19,24 +19,24 @@ impl Model for Rows {
 
     ghost Value = { Table };
 
-    ghost view = { λ r. record { words = r.words; points = rows_of r.words r.count r.cells.items } };
+    ghost view = { λ r. record { dimension = r.dimension; points = rows_of r.dimension r.count r.cells.items } };
 
-    ghost invariant = { λ r. r.count * r.words ≡ length r.cells.items };
+    ghost invariant = { λ r. r.count * r.dimension ≡ length r.cells.items };
 }
 
 impl Rows {
-    pub fn new(alloc: Global, words: usize) -> Self
-        ensures { result ≡ record { words = words; points = [] } }
+    pub fn new(alloc: Global, dimension: usize) -> Self
+        ensures { result ≡ record { dimension = dimension; points = [] } }
     {
         Rows {
             cells: Vec::new(alloc),
-            words,
+            dimension,
             count: 0,
         }
     }
 
     pub fn push(&mut self, p: &[u32]) -> Result<(), Memory>
-        requires { length p.now ≡ self.old.words }
+        requires { length p.now ≡ self.old.dimension }
         ensures ok { OnOk result (self.new ≡ record self.old { points = self.old.points ++ p.now ∷ [] }) }
         ensures err { OnErr result (self.new ≡ self.old) }
     {
@@ -62,7 +62,7 @@ impl Rows {
         requires { i < length self.now.points }
         ensures { result.now ≡ slice_index_or self.now.points i [] }
     {
-        let start = i * self.words;
-        &self.cells[start..start + self.words]
+        let start = i * self.dimension;
+        &self.cells[start..start + self.dimension]
     }
 }

@@ -15,8 +15,8 @@ pub trait Ruler {
     ghost used: { Self → ℕ };
 
     /// Returns whether `p` is a point of the metric's space.
-    fn fits(&self, p: &[u32]) -> bool
-        ensures { result ≡ (Self.M.space (metric self.now)).fits p.now };
+    fn is_point(&self, p: &[u32]) -> bool
+        ensures { result ≡ (Self.M.space (metric self.now)).is_point p.now };
 
     /// Returns the distance of `a` and `b`, and counts one more.
     fn dist(&mut self, a: &[u32], b: &[u32]) -> u64
@@ -60,8 +60,8 @@ impl<M: Metric> Ruler for Meter<M> {
 
     ghost used = { λ m. m.used };
 
-    fn fits(&self, p: &[u32]) -> bool {
-        self.metric.fits(p)
+    fn is_point(&self, p: &[u32]) -> bool {
+        self.metric.is_point(p)
     }
 
     fn dist(&mut self, a: &[u32], b: &[u32]) -> u64 {

@@ -22,28 +22,28 @@ capped_axioms s most is some low = record {
   bounded = λ a b fa fb. omega arith;
 }
 
-front_fits : (s t : Space) (p : List ℕ) → IsTrue (fits_both s t p) → IsTrue (s.fits (take s.words p))
-front_fits s t p fits = (and_parts (s.fits (take s.words p)) (t.fits (drop s.words p)) fits).0
+front_fits : (s t : Space) (p : List ℕ) → IsTrue (fits_both s t p) → IsTrue (s.is_point (take s.dimension p))
+front_fits s t p is_point = (and_parts (s.is_point (take s.dimension p)) (t.is_point (drop s.dimension p)) is_point).0
 
-back_fits : (s t : Space) (p : List ℕ) → IsTrue (fits_both s t p) → IsTrue (t.fits (drop s.words p))
-back_fits s t p fits = (and_parts (s.fits (take s.words p)) (t.fits (drop s.words p)) fits).1
+back_fits : (s t : Space) (p : List ℕ) → IsTrue (fits_both s t p) → IsTrue (t.is_point (drop s.dimension p))
+back_fits s t p is_point = (and_parts (s.is_point (take s.dimension p)) (t.is_point (drop s.dimension p)) is_point).1
 
-both_long : (s t : Space) → IsSpace s → IsSpace t → (p : List ℕ) → IsTrue (fits_both s t p) → length p ≡ s.words + t.words
-both_long s t is it p fits =
-    let front = is.long (take s.words p) (front_fits s t p fits) in
-    let back = it.long (drop s.words p) (back_fits s t p fits) in
-    let whole = ap length (take-append-drop s.words p) in
-    omega (arith, length-append (take s.words p) (drop s.words p))
+both_long : (s t : Space) → IsSpace s → IsSpace t → (p : List ℕ) → IsTrue (fits_both s t p) → length p ≡ s.dimension + t.dimension
+both_long s t is it p is_point =
+    let front = is.long (take s.dimension p) (front_fits s t p is_point) in
+    let back = it.long (drop s.dimension p) (back_fits s t p is_point) in
+    let whole = ap length (take-append-drop s.dimension p) in
+    omega (arith, length-append (take s.dimension p) (drop s.dimension p))
 
 both_small : (s t : Space) → IsSpace s → IsSpace t → (p : List ℕ) → IsTrue (fits_both s t p) → All (λ x. x < 2 ^ 32) p
-both_small s t is it p fits =
-    subst (λ (l : List ℕ). All (λ x. x < 2 ^ 32) l) (take-append-drop s.words p)
-    (All-append (λ x. x < 2 ^ 32) (take s.words p) (drop s.words p) (is.small _ (front_fits s t p fits)) (it.small _ (back_fits s t p fits)))
+both_small s t is it p is_point =
+    subst (λ (l : List ℕ). All (λ x. x < 2 ^ 32) l) (take-append-drop s.dimension p)
+    (All-append (λ x. x < 2 ^ 32) (take s.dimension p) (drop s.dimension p) (is.small _ (front_fits s t p is_point)) (it.small _ (back_fits s t p is_point)))
 
 both_same : (n : ℕ) (a b : List ℕ) → take n a ≡ take n b → drop n a ≡ drop n b → a ≡ b
 both_same n a b front back = sym (take-append-drop n a) ∙ (λ i. front i ++ back i) ∙ take-append-drop n b
 
-sum_axioms : (s t : Space) → IsSpace s → IsSpace t → s.words + t.words ≤ 64 → IsSpace (joined_space Sum s t)
+sum_axioms : (s t : Space) → IsSpace s → IsSpace t → s.dimension + t.dimension ≤ 64 → IsSpace (joined_space Sum s t)
 sum_axioms s t is it few = record {
   some_words = omega (arith, is.some_words);
   few_words = few;
@@ -52,25 +52,25 @@ sum_axioms s t is it few = record {
   symmetric = λ a b fa fb.
       omega (
         arith,
-        is.symmetric (take s.words a) (take s.words b) (front_fits s t a fa) (front_fits s t b fb),
-        it.symmetric (drop s.words a) (drop s.words b) (back_fits s t a fa) (back_fits s t b fb),
+        is.symmetric (take s.dimension a) (take s.dimension b) (front_fits s t a fa) (front_fits s t b fb),
+        it.symmetric (drop s.dimension a) (drop s.dimension b) (back_fits s t a fa) (back_fits s t b fb),
       );
   zero_same = λ a fa.
-      omega (arith, is.zero_same (take s.words a) (front_fits s t a fa), it.zero_same (drop s.words a) (back_fits s t a fa));
+      omega (arith, is.zero_same (take s.dimension a) (front_fits s t a fa), it.zero_same (drop s.dimension a) (back_fits s t a fa));
   same_zero = λ a b fa fb none.
-      both_same s.words a b
-      (is.same_zero (take s.words a) (take s.words b) (front_fits s t a fa) (front_fits s t b fb) (omega arith))
-      (it.same_zero (drop s.words a) (drop s.words b) (back_fits s t a fa) (back_fits s t b fb) (omega arith));
+      both_same s.dimension a b
+      (is.same_zero (take s.dimension a) (take s.dimension b) (front_fits s t a fa) (front_fits s t b fb) (omega arith))
+      (it.same_zero (drop s.dimension a) (drop s.dimension b) (back_fits s t a fa) (back_fits s t b fb) (omega arith));
   triangle = λ a b c fa fb fc.
       omega (
         arith,
-        is.triangle (take s.words a) (take s.words b) (take s.words c) (front_fits s t a fa) (front_fits s t b fb) (front_fits s t c fc),
-        it.triangle (drop s.words a) (drop s.words b) (drop s.words c) (back_fits s t a fa) (back_fits s t b fb) (back_fits s t c fc),
+        is.triangle (take s.dimension a) (take s.dimension b) (take s.dimension c) (front_fits s t a fa) (front_fits s t b fb) (front_fits s t c fc),
+        it.triangle (drop s.dimension a) (drop s.dimension b) (drop s.dimension c) (back_fits s t a fa) (back_fits s t b fb) (back_fits s t c fc),
       );
   bounded = λ a b fa fb. omega arith;
 }
 
-most_axioms : (s t : Space) → IsSpace s → IsSpace t → s.words + t.words ≤ 64 → IsSpace (joined_space Most s t)
+most_axioms : (s t : Space) → IsSpace s → IsSpace t → s.dimension + t.dimension ≤ 64 → IsSpace (joined_space Most s t)
 most_axioms s t is it few = record {
   some_words = omega (arith, is.some_words);
   few_words = few;
@@ -79,29 +79,29 @@ most_axioms s t is it few = record {
   symmetric = λ a b fa fb.
       omega (
         arith,
-        is.symmetric (take s.words a) (take s.words b) (front_fits s t a fa) (front_fits s t b fb),
-        it.symmetric (drop s.words a) (drop s.words b) (back_fits s t a fa) (back_fits s t b fb),
+        is.symmetric (take s.dimension a) (take s.dimension b) (front_fits s t a fa) (front_fits s t b fb),
+        it.symmetric (drop s.dimension a) (drop s.dimension b) (back_fits s t a fa) (back_fits s t b fb),
       );
   zero_same = λ a fa.
-      omega (arith, is.zero_same (take s.words a) (front_fits s t a fa), it.zero_same (drop s.words a) (back_fits s t a fa));
+      omega (arith, is.zero_same (take s.dimension a) (front_fits s t a fa), it.zero_same (drop s.dimension a) (back_fits s t a fa));
   same_zero = λ a b fa fb none.
-      both_same s.words a b
-      (is.same_zero (take s.words a) (take s.words b) (front_fits s t a fa) (front_fits s t b fb) (omega arith))
-      (it.same_zero (drop s.words a) (drop s.words b) (back_fits s t a fa) (back_fits s t b fb) (omega arith));
+      both_same s.dimension a b
+      (is.same_zero (take s.dimension a) (take s.dimension b) (front_fits s t a fa) (front_fits s t b fb) (omega arith))
+      (it.same_zero (drop s.dimension a) (drop s.dimension b) (back_fits s t a fa) (back_fits s t b fb) (omega arith));
   triangle = λ a b c fa fb fc.
       omega (
         arith,
-        is.triangle (take s.words a) (take s.words b) (take s.words c) (front_fits s t a fa) (front_fits s t b fb) (front_fits s t c fc),
-        it.triangle (drop s.words a) (drop s.words b) (drop s.words c) (back_fits s t a fa) (back_fits s t b fb) (back_fits s t c fc),
+        is.triangle (take s.dimension a) (take s.dimension b) (take s.dimension c) (front_fits s t a fa) (front_fits s t b fb) (front_fits s t c fc),
+        it.triangle (drop s.dimension a) (drop s.dimension b) (drop s.dimension c) (back_fits s t a fa) (back_fits s t b fb) (back_fits s t c fc),
       );
   bounded = λ a b fa fb.
       omega (
         arith,
-        is.bounded (take s.words a) (take s.words b) (front_fits s t a fa) (front_fits s t b fb),
-        it.bounded (drop s.words a) (drop s.words b) (back_fits s t a fa) (back_fits s t b fb),
+        is.bounded (take s.dimension a) (take s.dimension b) (front_fits s t a fa) (front_fits s t b fb),
+        it.bounded (drop s.dimension a) (drop s.dimension b) (back_fits s t a fa) (back_fits s t b fb),
       );
 }
 
-pub joined_axioms : (joining : Joining) (s t : Space) → IsSpace s → IsSpace t → s.words + t.words ≤ 64 → IsSpace (joined_space joining s t)
+pub joined_axioms : (joining : Joining) (s t : Space) → IsSpace s → IsSpace t → s.dimension + t.dimension ≤ 64 → IsSpace (joined_space joining s t)
 joined_axioms Sum s t is it few = sum_axioms s t is it few
 joined_axioms Most s t is it few = most_axioms s t is it few

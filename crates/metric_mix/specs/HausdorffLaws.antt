@@ -59,10 +59,10 @@ farthest_over [] b c = omega arith
 farthest_over (x ∷ a) b c = omega (arith, nearest_over x b c, farthest_over a b c)
 
 set_long : (n : ℕ) (p : List ℕ) → IsTrue (is_set n p) → length p ≡ n
-set_long n p fits = vector_long n p (and_parts (is_vector n p) (is_spelled p) fits).0
+set_long n p is_point = vector_long n p (and_parts (is_vector n p) (is_spelled p) is_point).0
 
 set_spelled : (n : ℕ) (p : List ℕ) → IsTrue (is_set n p) → is_spelled p ≡ true
-set_spelled n p fits = (and_parts (is_vector n p) (is_spelled p) fits).1
+set_spelled n p is_point = (and_parts (is_vector n p) (is_spelled p) is_point).1
 
 pub hausdorff_axioms : (n : ℕ) → 1 ≤ n → n ≤ 64 → IsSpace (hausdorff_space n)
 hausdorff_axioms n some few = record {

@@ -12,8 +12,8 @@ abbrev pub has_halves : ℕ → Bool
 has_halves kind = (kind == 6) || (kind == 7)
 
 -- whether the kind has a space of dimension `dim`
-abbrev pub is_lawful : ℕ → ℕ → Bool
-is_lawful kind dim = nat_le 1 dim && nat_le dim 64 && (if has_halves kind then dim % 2 == 0 else true)
+abbrev pub is_valid : ℕ → ℕ → Bool
+is_valid kind dim = nat_le 1 dim && nat_le dim 64 && (if has_halves kind then dim % 2 == 0 else true)
 
 -- 1 Hamming, 2 L1, 3 the maximum, 4 Kendall, 5 Hausdorff, 6 the sum and 7 the greater of both halves' distances, 8 L1 up to 65535
 abbrev pub mix_parts : ℕ → ℕ → Space
@@ -27,7 +27,7 @@ mix_parts kind dim =
 
 -- the space of a kind and a dimension
 abbrev pub mix_space : ℕ → ℕ → Space
-mix_space kind dim = record { words = dim; fits = (mix_parts kind dim).fits; dist = (mix_parts kind dim).dist }
+mix_space kind dim = record { dimension = dim; is_point = (mix_parts kind dim).is_point; dist = (mix_parts kind dim).dist }
 
 -- the name of a kind
 abbrev pub mix_name : ℕ → List ℕ
@@ -41,12 +41,12 @@ mix_name kind =
     else (if kind == 7 then codes "mixmax"
     else codes "l1cap"))))))
 
--- each kind from 1 to 8 has a space of each lawful dimension
+-- each kind from 1 to 8 has a space of each valid dimension
 abbrev pub MixSpacesAreSpaces : Type 0
-MixSpacesAreSpaces = (kind dim : ℕ) → 1 ≤ kind → kind ≤ 8 → IsTrue (is_lawful kind dim) → IsSpace (mix_space kind dim)
+MixSpacesAreSpaces = (kind dim : ℕ) → 1 ≤ kind → kind ≤ 8 → IsTrue (is_valid kind dim) → IsSpace (mix_space kind dim)
 
 -- except for permutations and sets, each list of `dim` 32-bit numbers is a point
 abbrev pub VectorsFit : Type 0
 VectorsFit =
-    (kind dim : ℕ) → 1 ≤ kind → kind ≤ 8 → IsTrue (is_lawful kind dim) → kind ≢ 4 → kind ≢ 5 →
-    (p : List ℕ) → IsTrue (is_vector dim p) → IsTrue ((mix_space kind dim).fits p)
+    (kind dim : ℕ) → 1 ≤ kind → kind ≤ 8 → IsTrue (is_valid kind dim) → kind ≢ 4 → kind ≢ 5 →
+    (p : List ℕ) → IsTrue (is_vector dim p) → IsTrue ((mix_space kind dim).is_point p)

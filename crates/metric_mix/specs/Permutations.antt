@@ -31,4 +31,4 @@ kendall_distance n a b = count_by is_discordant (pairs_of (zip (take n a) (take 
 
 -- the space of permutations
 abbrev pub kendall_space : ℕ → Space
-kendall_space n = record { words = n; fits = is_permutation n; dist = kendall_distance n }
+kendall_space n = record { dimension = n; is_point = is_permutation n; dist = kendall_distance n }

@@ -37,7 +37,7 @@ low_grows v w [] up = omega arith
 low_grows v w (x ∷ p) up = let rest = low_grows v w p up in grind (arith, nat_tests)
 
 pub permutation_long : (n : ℕ) (p : List ℕ) → IsTrue (is_permutation n p) → length p ≡ n
-permutation_long n p fits = eqb-true (length p) n (and_parts (length p == n) (holds_below n p) fits).0
+permutation_long n p is_point = eqb-true (length p) n (and_parts (length p == n) (holds_below n p) is_point).0
 
 -- a number of the list is counted from the next number on
 low_step : (v : ℕ) (p : List ℕ) → list_any (λ x. x == v) p ≡ true → suc (low v p) ≤ low (suc v) p
@@ -71,8 +71,8 @@ low_climbs (suc n) v p less holds =
 
 -- in a permutation of 0 to n - 1 there are v numbers below v
 low_is : (n v : ℕ) (p : List ℕ) → v ≤ n → IsTrue (is_permutation n p) → low v p ≡ v
-low_is n v p less fits =
-    let parts = and_parts (length p == n) (holds_below n p) fits in
+low_is n v p less is_point =
+    let parts = and_parts (length p == n) (holds_below n p) is_point in
     let long = eqb-true (length p) n parts.0 in
     let up = low_climbs v 0 p (omega arith) (holds_less n v p less parts.1) in
     let down = low_climbs n v p less parts.1 in
@@ -80,13 +80,13 @@ low_is n v p less fits =
     omega arith
 
 pub high_is : (n v : ℕ) (p : List ℕ) → IsTrue (is_permutation n p) → high v p ≡ n - suc v
-high_is n v p fits =
-    let long = permutation_long n p fits in
+high_is n v p is_point =
+    let long = permutation_long n p is_point in
     let split = low_and_high v p in
     let few = low_few (suc v) p in
     elim (cases_lt v n) [
-      | inl under ↦ (let here = low_is n (suc v) p (omega arith) fits in omega arith)
-      | inr over ↦ (let all = low_is n n p (omega arith) fits in let more = low_grows n (suc v) p (omega arith) in omega arith)
+      | inl under ↦ (let here = low_is n (suc v) p (omega arith) is_point in omega arith)
+      | inr over ↦ (let all = low_is n n p (omega arith) is_point in let more = low_grows n (suc v) p (omega arith) in omega arith)
     ]
 
 -- each number of a permutation is below n
@@ -99,7 +99,7 @@ all_low n (x ∷ p) all (suc k) d within =
     all_low n p rest k d (omega arith)
 
 pub permutation_below : (n : ℕ) (p : List ℕ) → IsTrue (is_permutation n p) → All (λ x. x < n) p
-permutation_below n p fits =
-    let long = permutation_long n p fits in
-    let all = low_is n n p (omega arith) fits in
+permutation_below n p is_point =
+    let long = permutation_long n p is_point in
+    let all = low_is n n p (omega arith) is_point in
     λ k d within. all_low n p (omega arith) k d within

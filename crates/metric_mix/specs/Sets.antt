@@ -30,4 +30,4 @@ hausdorff_distance a b = max (farthest a b) (farthest b a)
 
 -- the space of sets
 abbrev pub hausdorff_space : ℕ → Space
-hausdorff_space n = record { words = n; fits = is_set n; dist = hausdorff_distance }
+hausdorff_space n = record { dimension = n; is_point = is_set n; dist = hausdorff_distance }

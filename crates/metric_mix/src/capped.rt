@@ -43,12 +43,12 @@ impl<M: Metric> Metric for Capped<M> {
 
     ghost axioms = { λ m. capped_axioms (M.space m.metric) m.most (M.axioms m.metric) m.some m.low };
 
-    fn words(&self) -> usize {
-        self.metric.words()
+    fn dimension(&self) -> usize {
+        self.metric.dimension()
     }
 
-    fn fits(&self, p: &[u32]) -> bool {
-        self.metric.fits(p)
+    fn is_point(&self, p: &[u32]) -> bool {
+        self.metric.is_point(p)
     }
 
     fn dist(&self, a: &[u32], b: &[u32]) -> u64 {

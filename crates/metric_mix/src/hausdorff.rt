@@ -31,12 +31,12 @@ impl Metric for Hausdorff {
 
     ghost axioms = { λ m. hausdorff_axioms m.dim m.some m.few };
 
-    fn words(&self) -> usize {
+    fn dimension(&self) -> usize {
         usize::from(self.dim)
     }
 
-    fn fits(&self, p: &[u32]) -> bool {
-        L1::new(self.dim).fits(p) && sets::is_spelled(p)
+    fn is_point(&self, p: &[u32]) -> bool {
+        L1::new(self.dim).is_point(p) && sets::is_spelled(p)
     }
 
     #[inline(never)]

@@ -35,21 +35,21 @@ pub struct Joined<A: Metric, B: Metric> {
     pub first: A,
     pub second: B,
     pub joining: Joining,
-    ghost few: { (A.space first).words + (B.space second).words ≤ 64 },
+    ghost few: { (A.space first).dimension + (B.space second).dimension ≤ 64 },
 }
 
-/// Returns the first `words` coordinates, and the rest.
-pub fn parts(p: &[u32], words: usize) -> (&[u32], &[u32])
-    ensures front { result.0.now ≡ take words p.now }
-    ensures back { result.1.now ≡ drop words p.now }
+/// Returns the first `dimension` coordinates, and the rest.
+pub fn parts(p: &[u32], dimension: usize) -> (&[u32], &[u32])
+    ensures front { result.0.now ≡ take dimension p.now }
+    ensures back { result.1.now ≡ drop dimension p.now }
 {
-    p.split_at(words.min(p.len()))
+    p.split_at(dimension.min(p.len()))
 }
 
 impl<A: Metric, B: Metric> Joined<A, B> {
     /// Returns the metric that joins the distances of `first` and `second`, which have at most 64 coordinates together.
     pub fn new(first: A, second: B, joining: Joining) -> Self
-        requires { (A.space first).words + (B.space second).words ≤ 64 }
+        requires { (A.space first).dimension + (B.space second).dimension ≤ 64 }
         ensures first { result.first ≡ first }
         ensures second { result.second ≡ second }
         ensures joining { result.joining ≡ joining }
@@ -79,19 +79,19 @@ impl<A: Metric, B: Metric> Metric for Joined<A, B> {
 
     ghost axioms = { λ m. joined_axioms m.joining (A.space m.first) (B.space m.second) (A.axioms m.first) (B.axioms m.second) m.few };
 
-    fn words(&self) -> usize {
-        self.first.words() + self.second.words()
+    fn dimension(&self) -> usize {
+        self.first.dimension() + self.second.dimension()
     }
 
-    fn fits(&self, p: &[u32]) -> bool {
-        let (front, back) = parts(p, self.first.words());
-        self.first.fits(front) && self.second.fits(back)
+    fn is_point(&self, p: &[u32]) -> bool {
+        let (front, back) = parts(p, self.first.dimension());
+        self.first.is_point(front) && self.second.is_point(back)
     }
 
     #[inline(never)]
     fn dist(&self, a: &[u32], b: &[u32]) -> u64 {
-        let (a_front, a_back) = parts(a, self.first.words());
-        let (b_front, b_back) = parts(b, self.first.words());
+        let (a_front, a_back) = parts(a, self.first.dimension());
+        let (b_front, b_back) = parts(b, self.first.dimension());
         let front = self.first.dist(a_front, b_front);
         let back = self.second.dist(a_back, b_back);
         self.joining.of(front, back)

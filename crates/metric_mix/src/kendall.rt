@@ -29,11 +29,11 @@ impl Metric for Kendall {
 
     ghost axioms = { λ m. kendall_axioms m.dim m.some m.few };
 
-    fn words(&self) -> usize {
+    fn dimension(&self) -> usize {
         usize::from(self.dim)
     }
 
-    fn fits(&self, p: &[u32]) -> bool {
+    fn is_point(&self, p: &[u32]) -> bool {
         p.len() == usize::from(self.dim) && permutations::hold_below(p, self.dim)
     }
 

@@ -2,8 +2,8 @@
 
 ghost use Rattle.metric_mix.specs.MixSpaces.{MixSpacesAreSpaces, VectorsFit};
 
-/// Each lawful kind and dimension has a metric space.
-#[tactic(auto, using(crate::specs::MixLaws::lawful_axioms))]
+/// Each valid kind and dimension has a metric space.
+#[tactic(auto, using(crate::specs::MixLaws::valid_axioms))]
 pub fn mix_spaces_are_spaces()
     ensures { MixSpacesAreSpaces }
 {}

@@ -1,5 +1,5 @@
 ghost use Rattle.std.specs.Prelude.{◌≡◌, ◌≤◌, ◌<◌, ◌↔◌, ◌⊎◌, false, IfOk, IsErrOf, IsOk, IsTrue};
-ghost use Rattle.metric_mix.specs.MixSpaces.{is_lawful, mix_name};
+ghost use Rattle.metric_mix.specs.MixSpaces.{is_valid, mix_name};
 
 use crate::{Capped, Halves, Hausdorff, Joining, Kendall};
 use metric_laws::Metric;
@@ -27,7 +27,7 @@ pub enum MixSpace {
 
 /// Returns whether the kind has a space of dimension `dim`.
 fn has_dimension(kind: u8, dim: u8) -> bool
-    ensures { result ≡ is_lawful kind dim }
+    ensures { result ≡ is_valid kind dim }
 {
     let halves = kind == 6 || kind == 7;
     1 <= dim && dim <= 64 && (!halves || dim % 2 == 0)
@@ -42,11 +42,11 @@ impl MixSpace {
         ensures kind { IfOk result (λ s. mix_kind s ≡ kind) }
         ensures dim { IfOk result (λ s. mix_dim s ≡ dim) }
 
-        ensures ok { IsOk result ↔ ((1 ≤ kind) × (kind ≤ 8) × IsTrue (is_lawful kind dim)) }
+        ensures ok { IsOk result ↔ ((1 ≤ kind) × (kind ≤ 8) × IsTrue (is_valid kind dim)) }
 
         // The kind is checked first.
         ensures no_kind { IsErrOf result SpaceFault.Kind ↔ ((kind < 1) ⊎ (8 < kind)) }
-        ensures no_dim { IsErrOf result SpaceFault.Dim ↔ ((1 ≤ kind) × (kind ≤ 8) × (is_lawful kind dim ≡ false)) }
+        ensures no_dim { IsErrOf result SpaceFault.Dim ↔ ((1 ≤ kind) × (kind ≤ 8) × (is_valid kind dim ≡ false)) }
     {
         if kind == 0 || kind > 8 {
             return Err(SpaceFault::Kind);
@@ -84,10 +84,10 @@ impl MixSpace {
     }
 
     /// Returns the number of coordinates of a point.
-    #[tactic(auto, using(crate::specs::MixKindLaws::mix_lawful))]
+    #[tactic(auto, using(crate::specs::MixKindLaws::mix_valid))]
     pub fn dim(&self) -> u8
         ensures value { result ≡ mix_dim self.now }
-        ensures lawful { IsTrue (is_lawful (mix_kind self.now) result) }
+        ensures valid { IsTrue (is_valid (mix_kind self.now) result) }
     {
         match self {
             MixSpace::Plain(space) => space.dim(),
@@ -125,18 +125,18 @@ impl Metric for MixSpace {
 
     ghost axioms = { mix_axioms };
 
-    fn words(&self) -> usize {
+    fn dimension(&self) -> usize {
         usize::from(self.dim())
     }
 
-    fn fits(&self, p: &[u32]) -> bool {
+    fn is_point(&self, p: &[u32]) -> bool {
         match self {
-            MixSpace::Plain(space) => space.fits(p),
-            MixSpace::Kendall(metric) => metric.fits(p),
-            MixSpace::Hausdorff(metric) => metric.fits(p),
-            MixSpace::MixSum(halves) => halves.joined(Joining::Sum).fits(p),
-            MixSpace::MixMax(halves) => halves.joined(Joining::Most).fits(p),
-            MixSpace::L1Cap(metric) => metric.fits(p),
+            MixSpace::Plain(space) => space.is_point(p),
+            MixSpace::Kendall(metric) => metric.is_point(p),
+            MixSpace::Hausdorff(metric) => metric.is_point(p),
+            MixSpace::MixSum(halves) => halves.joined(Joining::Sum).is_point(p),
+            MixSpace::MixMax(halves) => halves.joined(Joining::Most).is_point(p),
+            MixSpace::L1Cap(metric) => metric.is_point(p),
         }
     }
 

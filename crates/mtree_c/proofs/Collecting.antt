@@ -10,7 +10,7 @@ use Rattle.metric_mix.specs.MixSpaces.{mix_space}
 use Rattle.scan_model.specs.declared.hit.Hit.{Hit}
 use Rattle.tree_shape.specs.declared.live.Live.{Live}
 use Rattle.node_page.specs.declared.head.Head.{Head}
-use Rattle.node_page.specs.Heads.{IsLawfulHead}
+use Rattle.node_page.specs.Heads.{IsValidHead}
 use Rattle.node_page.specs.Opening.{OpensTo}
 use Rattle.page_store.specs.declared.image_pages.ImagePages.{ImagePages}
 use Rattle.page_store.specs.Images.{bytes_in}
@@ -141,11 +141,11 @@ module _ (kind dim : ℕ) (head : Head) (live : Live) (kind_is : kind ≡ head.k
   pages_of file pages are = subst (λ (s : Space). ArePagesOf s live file pages) same_space are
 
   -- pages that were just put behind a cache
-  pub opened_by : (file : List ℕ) (pages : Cache ImagePages) → OpensTo file head live → head.version ≡ 2 → IsLawfulHead head → live.pages ≤ 2 ^ 24 → ArePagesOf (mix_space kind dim) live file pages
+  pub opened_by : (file : List ℕ) (pages : Cache ImagePages) → OpensTo file head live → head.version ≡ 2 → IsValidHead head → live.pages ≤ 2 ^ 24 → ArePagesOf (mix_space kind dim) live file pages
       → IsOpened (bytes_in pages.inner.image) head live pages
-  opened_by file pages opens version lawful few are =
+  opened_by file pages opens version valid few are =
       subst (λ (x : List ℕ). IsOpened x head live pages) (sym are.bytes)
-      (record { opens = opens; version = version; lawful = lawful; few = few; behind = pages_of file pages are })
+      (record { opens = opens; version = version; valid = valid; few = few; behind = pages_of file pages are })
 
   pub comes_to : (file : List ℕ) (c : Command) → OpensTo file head live → head.version ≡ 2 → (came : Result Outcome AllocError) → IfOk came (IsOutcomeOf (mix_space kind dim) live file c)
       → (r : Result Answer ℕ) → IfOk r (λ a. came ≡ Ok (outcome.Done (reply.Hits a.hits a.tags) (Some a.log)))

@@ -48,7 +48,7 @@ module _ (show : Bool) (script file : List ℕ) (plan : Plan) (text log : List �
     whole = whole;
     faultless = faultless;
     runs = runs;
-    complete = λ few tells head live sound none. complete few tells head live sound no_fault;
+    complete = λ few is_known head live sound none. complete few is_known head live sound no_fault;
     long = taken_long script left status takes;
     statuses = ends statuses input output memory;
   }

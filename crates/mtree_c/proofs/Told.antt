@@ -14,7 +14,7 @@ use Rattle.job_files.specs.Lines.{damaged_text, not_index_text, rejected_text, s
 use Rattle.job_files.specs.Shapes.{IsDamaged, IsShapeOf, IsShapeStatus, IsSound, Shapes}
 use Rattle.page_store.specs.Files.{IsLarge}
 use Rattle.job_seal.specs.Seals.{IsSealed, IsSealStatus, Seals, sealed_text}
-use Rattle.job_files.specs.Logs.Sayings.{Saying}
+use Rattle.job_files.specs.Logs.JobReports.{JobReport}
 use Rattle.job_files.specs.Logs.Jobs.{IsLogStatus, JudgesBytes, ReadsLogs, Writes}
 use Rattle.caller_ends.specs.Rooms.{StandAtFront}
 use Rattle.mtree_c.specs.Rooms.{HandsText}
@@ -69,10 +69,10 @@ taken_front a b logs left bytes had has taken =
     let took : logs ≡ bytes ++ left = subst (λ (y : Option (List ℕ)). Consumes (Some logs) y bytes) has (subst (λ (x : Option (List ℕ)). Consumes x b bytes) had taken) in
     omega (arith, ap length took, length-append bytes left)
 
-module _ (d0 d1 : DiskState) (o0 o1 : SinkState) (file text : List ℕ) (tells : IsTrue d0.tells) (bytes_are : d0.bytes ≡ file)
+module _ (d0 d1 : DiskState) (o0 o1 : SinkState) (file text : List ℕ) (is_known : IsTrue d0.is_known) (bytes_are : d0.bytes ≡ file)
     (empty : o0.written ≡ Some []) (holds : o1.written ≡ Some text) (none : o0.faults ≡ 0) (never : o1.faults ≡ 0) where
-  unopened : (name : List ℕ) → Tells o0 o1 (not_index_text name) → (IsTrue d0.tells → IsNoIndex d0.bytes name) → IsUnopenedText file text
-  unopened name line why = (name, subst (λ (x : List ℕ). IsNoIndex x name) bytes_are (why tells), told o0 o1 text (not_index_text name) empty holds none never line)
+  unopened : (name : List ℕ) → Tells o0 o1 (not_index_text name) → (IsTrue d0.is_known → IsNoIndex d0.bytes name) → IsUnopenedText file text
+  unopened name line why = (name, subst (λ (x : List ℕ). IsNoIndex x name) bytes_are (why is_known), told o0 o1 text (not_index_text name) empty holds none never line)
 
   audit_ends : (status : ℕ) → IsAuditStatus status → status ≢ 4 → status ≢ 5 → status ≢ 8 → (status ≡ 0) ⊎ ((status ≡ 1) ⊎ (status ≡ 6))
   audit_ends status (inl is) a n b = inl is
@@ -84,8 +84,8 @@ module _ (d0 d1 : DiskState) (o0 o1 : SinkState) (file text : List ℕ) (tells :
 
   pub audit_text : (status : ℕ) → Audits d0 d1 o0 o1 status → IsAuditStatus status → status ≢ 4 → status ≢ 5 → status ≢ 8 → IsAuditText file text status
   audit_text status audits statuses not_short not_disk not_memory = record {
-    sound = λ is. let s = audits.sound is in (s.0, s.1, subst (λ (x : List ℕ). IsSoundWith x s.0 s.1) bytes_are (s.3 tells), appended o0.written o1.written text (sound_text s.0 s.1) empty holds s.2);
-    rejected = λ is. let r = audits.rejected is in (r.0, subst (λ (x : List ℕ). IsAudited x (Some r.0)) bytes_are (r.2 tells), appended o0.written o1.written text (rejected_text r.0) empty holds r.1);
+    sound = λ is. let s = audits.sound is in (s.0, s.1, subst (λ (x : List ℕ). IsSoundWith x s.0 s.1) bytes_are (s.3 is_known), appended o0.written o1.written text (sound_text s.0 s.1) empty holds s.2);
+    rejected = λ is. let r = audits.rejected is in (r.0, subst (λ (x : List ℕ). IsAudited x (Some r.0)) bytes_are (r.2 is_known), appended o0.written o1.written text (rejected_text r.0) empty holds r.1);
     no_index = λ is. let n = audits.not_index is in unopened n.0 n.1 n.2;
     statuses = audit_ends status statuses not_short not_disk not_memory;
   }
@@ -111,12 +111,12 @@ module _ (d0 d1 : DiskState) (o0 o1 : SinkState) (file text : List ℕ) (tells :
       record {
         drawn = λ is.
             let d = shapes.done is in
-            (d.0, d.1, d.2, subst (λ (x : List ℕ). IsShapeOf x d.0 d.1 d.2) bytes_are (d.4 tells), appended o0.written o1.written text (shape_text d.0 d.1 d.2) empty holds d.3);
+            (d.0, d.1, d.2, subst (λ (x : List ℕ). IsShapeOf x d.0 d.1 d.2) bytes_are (d.4 is_known), appended o0.written o1.written text (shape_text d.0 d.1 d.2) empty holds d.3);
         no_index = λ is. let n = shapes.not_index is in unopened n.0 n.1 n.2;
         damaged = λ is.
             let d = shapes.damaged is in
-            (d.0, subst (λ (x : List ℕ). IsDamaged x d.0) bytes_are (d.2 tells), told o0 o1 text (damaged_text d.0) empty holds none never d.1);
-        sound = λ head live is. shaped_sound status ends (shapes.sound tells head live (subst (λ (x : List ℕ). IsSound head live x) (sym bytes_are) is));
+            (d.0, subst (λ (x : List ℕ). IsDamaged x d.0) bytes_are (d.2 is_known), told o0 o1 text (damaged_text d.0) empty holds none never d.1);
+        sound = λ head live is. shaped_sound status ends (shapes.sound is_known head live (subst (λ (x : List ℕ). IsSound head live x) (sym bytes_are) is));
         statuses = ends;
       }
 
@@ -132,14 +132,14 @@ module _ (d0 d1 : DiskState) (o0 o1 : SinkState) (file text : List ℕ) (tells :
               s.live,
               s.nodes,
               s.levels,
-              subst (λ (x : List ℕ). AreStatsOf x s.head s.live s.nodes s.levels) bytes_are (s.are tells),
+              subst (λ (x : List ℕ). AreStatsOf x s.head s.live s.nodes s.levels) bytes_are (s.are is_known),
               appended o0.written o1.written text (stats_text s.head s.live s.nodes s.levels) empty holds s.put,
             );
         no_index = λ is. let n = stats.not_index is in unopened n.0 n.1 n.2;
         damaged = λ is.
             let d = stats.damaged is in
-            (d.0, subst (λ (x : List ℕ). IsDamaged x d.0) bytes_are (d.2 tells), told o0 o1 text (damaged_text d.0) empty holds none never d.1);
-        sound = λ head live is. shaped_sound status ends (stats.sound tells head live (subst (λ (x : List ℕ). IsSound head live x) (sym bytes_are) is));
+            (d.0, subst (λ (x : List ℕ). IsDamaged x d.0) bytes_are (d.2 is_known), told o0 o1 text (damaged_text d.0) empty holds none never d.1);
+        sound = λ head live is. shaped_sound status ends (stats.sound is_known head live (subst (λ (x : List ℕ). IsSound head live x) (sym bytes_are) is));
         statuses = ends;
       }
 
@@ -151,12 +151,12 @@ module _ (d0 d1 : DiskState) (o0 o1 : SinkState) (file text : List ℕ) (tells :
       record {
         dumped = λ is.
             let d = dumps.done is in
-            (d.0, subst (λ (x : List ℕ). HoldsRows x d.0) bytes_are (d.2 tells), appended o0.written o1.written text (script_text d.0) empty holds d.1);
+            (d.0, subst (λ (x : List ℕ). HoldsRows x d.0) bytes_are (d.2 is_known), appended o0.written o1.written text (script_text d.0) empty holds d.1);
         no_index = λ is. let n = dumps.not_index is in unopened n.0 n.1 n.2;
         damaged = λ is.
             let d = dumps.damaged is in
-            (d.0, subst (λ (x : List ℕ). IsDumpDamaged x d.0) bytes_are (d.2 tells).1, told o0 o1 text (fault_text d.0) empty holds none never (d.2 tells).0);
-        sound = λ head live is. shaped_sound status ends (dumps.sound tells head live (subst (λ (x : List ℕ). IsSound head live x) (sym bytes_are) is));
+            (d.0, subst (λ (x : List ℕ). IsDumpDamaged x d.0) bytes_are (d.2 is_known).1, told o0 o1 text (fault_text d.0) empty holds none never (d.2 is_known).0);
+        sound = λ head live is. shaped_sound status ends (dumps.sound is_known head live (subst (λ (x : List ℕ). IsSound head live x) (sym bytes_are) is));
         statuses = ends;
       }
 
@@ -173,32 +173,32 @@ module _ (d0 d1 : DiskState) (o0 o1 : SinkState) (file text : List ℕ) (tells :
 
   pub seal_text : (status : ℕ) → Seals d0 d1 o0 o1 status → IsSealStatus status → status ≢ 4 → status ≢ 5 → status ≢ 8 → IsSealText file text status
   seal_text status seals statuses not_short not_disk not_memory = record {
-    sealed = λ is. let s = seals.sealed is in (s.0, subst (λ (x : List ℕ). IsSealed x s.0) bytes_are (s.2 tells), appended o0.written o1.written text (sealed_text s.0) empty holds s.1);
-    rejected = λ is. let r = seals.rejected is in (r.0, subst (λ (x : List ℕ). IsAudited x (Some r.0)) bytes_are (r.2 tells), appended o0.written o1.written text (rejected_text r.0) empty holds r.1);
+    sealed = λ is. let s = seals.sealed is in (s.0, subst (λ (x : List ℕ). IsSealed x s.0) bytes_are (s.2 is_known), appended o0.written o1.written text (sealed_text s.0) empty holds s.1);
+    rejected = λ is. let r = seals.rejected is in (r.0, subst (λ (x : List ℕ). IsAudited x (Some r.0)) bytes_are (r.2 is_known), appended o0.written o1.written text (rejected_text r.0) empty holds r.1);
     no_index = λ is. let n = seals.not_index is in unopened n.0 n.1 n.2;
-    long = λ is. let l = seals.long is in (subst IsLarge bytes_are (l.1 tells), told o0 o1 text (codes "fault long\n") empty holds none never l.0);
-    large = λ is large. seals.large (⊎_elim (λ a. inl a) (λ b. inr (inl b)) is) tells (subst IsLarge (sym bytes_are) large);
+    long = λ is. let l = seals.long is in (subst IsLarge bytes_are (l.1 is_known), told o0 o1 text (codes "fault long\n") empty holds none never l.0);
+    large = λ is large. seals.large (⊎_elim (λ a. inl a) (λ b. inr (inl b)) is) is_known (subst IsLarge (sym bytes_are) large);
     statuses = seal_ends status statuses not_short not_disk not_memory;
   }
 
   -- ---- logs
 
   -- what a job does that says of files and logs what `IsSaid` tells
-  abbrev pub SaysOn : (List ℕ → Type 0) → (List ℕ → List ℕ → Saying → Type 0) → Option (List ℕ) → Option (List ℕ) → ℕ → Type 0
+  abbrev pub SaysOn : (List ℕ → Type 0) → (List ℕ → List ℕ → JobReport → Type 0) → Option (List ℕ) → Option (List ℕ) → ℕ → Type 0
   SaysOn Same IsSaid l0 l1 status =
-      ReadsLogs (IsUnchanged d0 d1) (λ bytes. JudgesBytes (Same bytes) (IsTrue d0.tells → (said : Saying) × IsSaid d0.bytes bytes said × Writes status said o0 o1)
-      (Rose d0.faults d1.faults) (λ name. IsTrue d0.tells → IsNoIndex d0.bytes name) o0 o1 status) l0 l1 o0 o1 status
+      ReadsLogs (IsUnchanged d0 d1) (λ bytes. JudgesBytes (Same bytes) (IsTrue d0.is_known → (said : JobReport) × IsSaid d0.bytes bytes said × Writes status said o0 o1)
+      (Rose d0.faults d1.faults) (λ name. IsTrue d0.is_known → IsNoIndex d0.bytes name) o0 o1 status) l0 l1 o0 o1 status
 
-  module _ (Same : List ℕ → Type 0) (IsSaid : List ℕ → List ℕ → Saying → Type 0) (l0 l1 : Option (List ℕ)) (logs left : List ℕ) (had : l0 ≡ Some logs) (has : l1 ≡ Some left) (status : ℕ)
+  module _ (Same : List ℕ → Type 0) (IsSaid : List ℕ → List ℕ → JobReport → Type 0) (l0 l1 : Option (List ℕ)) (logs left : List ℕ) (had : l0 ≡ Some logs) (has : l1 ≡ Some left) (status : ℕ)
       (judged : SaysOn Same IsSaid l0 l1 status)
       (not_input : status ≢ 3) (not_short : status ≢ 4) (not_disk : status ≢ 5) (not_memory : status ≢ 8) where
     all_taken : status ≢ 7 → judged.bytes ≡ logs
     all_taken other = taken_all l0 l1 logs left judged.bytes had has judged.taken (judged.all not_input other not_memory)
 
     said : (status ≡ 0) ⊎ (status ≡ 1) → status ≢ 7 →
-        (s : Saying) × IsSaid file logs s × (text ≡ concat s.texts) × (status ≡ s.status)
+        (s : JobReport) × IsSaid file logs s × (text ≡ concat s.texts) × (status ≡ s.status)
     said is other =
-        let w = (judged.judges not_input other).done is tells in
+        let w = (judged.judges not_input other).done is is_known in
         let e = w.2.ends.done is in
         let whole : w.0.texts ≡ w.2.put = w.2.whole ∙ ap (λ (x : List (List ℕ)). w.2.put ++ x) e.1 ∙ append-nil w.2.put in
         let put : text ≡ concat w.2.put = appended o0.written o1.written text (concat w.2.put) empty holds (subst (λ (m : Option (List ℕ)). Appends o0.written m (concat w.2.put)) (sym e.2) w.2.written) in
@@ -295,7 +295,7 @@ hands_carried Is carried0 carried1 text0 text1 frames text f0 f1 sizes status of
   same = same;
 }
 
-module _ (d0 d1 : DiskState) (o0 o1 : SinkState) (file text : List ℕ) (tells : IsTrue d0.tells) (bytes_are : d0.bytes ≡ file)
+module _ (d0 d1 : DiskState) (o0 o1 : SinkState) (file text : List ℕ) (is_known : IsTrue d0.is_known) (bytes_are : d0.bytes ≡ file)
     (empty : o0.written ≡ Some []) (holds : o1.written ≡ Some text) (none : o0.faults ≡ 0) (never : o1.faults ≡ 0)
     (s0 s1 l0 l1 : Option (List ℕ)) (logs left frames : List ℕ) (had : s0 ≡ Some logs) (has : s1 ≡ Some left) (first : l0 ≡ Some []) (last : l1 ≡ Some frames) (status : ℕ)
     (carries : CarriesLogs d0 d1 s0 s1 l0 l1 o0 o1 status) (not_input : status ≢ 3) (not_short : status ≢ 4) (not_disk : status ≢ 5) (not_memory : status ≢ 8) where
@@ -311,7 +311,7 @@ module _ (d0 d1 : DiskState) (o0 o1 : SinkState) (file text : List ℕ) (tells :
       (subst (λ (x : Option (List ℕ)). CarriesOn d0.bytes carries.bytes x (Some frames) (Some []) (Some text) status) first
       (subst (λ (x : Option (List ℕ)). CarriesOn d0.bytes carries.bytes l0 x (Some []) (Some text) status) last
       (subst (λ (x : Option (List ℕ)). CarriesOn d0.bytes carries.bytes l0 l1 x (Some text) status) empty
-      (subst (λ (x : Option (List ℕ)). CarriesOn d0.bytes carries.bytes l0 l1 o0.written x status) holds (carries.done is tells))))))
+      (subst (λ (x : Option (List ℕ)). CarriesOn d0.bytes carries.bytes l0 l1 o0.written x status) holds (carries.done is is_known))))))
 
   no_frames : IsRefusal status → frames ≡ []
   no_frames is = let same : l1 ≡ l0 = carries.no_frame is in cc (same, first, last)
@@ -331,12 +331,12 @@ module _ (d0 d1 : DiskState) (o0 o1 : SinkState) (file text : List ℕ) (tells :
     carried = λ is. carried_on is (⊎_elim (λ z. λ s. absurd (omega (arith, z, s))) (λ one. λ s. absurd (omega (arith, one, s))) is);
     no_index = λ is.
         let n = carries.not_index is in
-        ((n.0, subst (λ (x : List ℕ). IsNoIndex x n.0) bytes_are (n.2 tells), told o0 o1 text (not_index_text n.0) empty holds none never n.1), no_frames (inr (inl is)));
+        ((n.0, subst (λ (x : List ℕ). IsNoIndex x n.0) bytes_are (n.2 is_known), told o0 o1 text (not_index_text n.0) empty holds none never n.1), no_frames (inr (inl is)));
     long = λ is.
         let l = carries.long is in (
           told o0 o1 text (codes "fault long\n") empty holds none never l.0,
           no_frames (inr (inr is)),
-          ⊎_elim (λ big. inl (omega (arith, big, taken_front s0 s1 logs left carries.bytes had has carries.taken))) (λ large. inr (subst IsLarge bytes_are (large tells))) l.1,
+          ⊎_elim (λ big. inl (omega (arith, big, taken_front s0 s1 logs left carries.bytes had has carries.taken))) (λ large. inr (subst IsLarge bytes_are (large is_known))) l.1,
         );
     statuses = carry_ends statuses;
   }

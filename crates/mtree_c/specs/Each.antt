@@ -5,7 +5,7 @@ use Rattle.metric_laws.specs.Rows.{rows_of}
 use Rattle.scan_model.specs.declared.hit.Hit.{Hit}
 use Rattle.tree_shape.specs.declared.live.Live.{Live}
 use Rattle.node_page.specs.declared.head.Head.{Head}
-use Rattle.node_page.specs.Heads.{IsLawfulHead}
+use Rattle.node_page.specs.Heads.{IsValidHead}
 use Rattle.node_page.specs.Opening.{OpensTo}
 use Rattle.page_store.specs.declared.image_pages.ImagePages.{ImagePages}
 use Rattle.page_store.specs.declared.pages.PageFault.{PageFault}
@@ -38,7 +38,7 @@ AsksSome (asked.Nearest count) = 1 ≤ count
 pub record IsOpened (file : List ℕ) (head : Head) (live : Live) (pages : Cache ImagePages) : Type 0 where
   pub opens : OpensTo file head live
   pub version : head.version ≡ 2
-  pub lawful : IsLawfulHead head
+  pub valid : IsValidHead head
   pub few : live.pages ≤ 2 ^ 24
   pub behind : ArePagesOf (space_of head) live file pages
 

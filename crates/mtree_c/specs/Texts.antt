@@ -13,7 +13,7 @@ use Rattle.tree_outline.specs.declared.outline.ShapeLine.{ShapeLine}
 use Rattle.tree_shape.specs.declared.live.Live.{Live}
 use Rattle.job_files.specs.declared.logs.report.Report.{Report}
 use Rattle.job_logs.specs.Jobs.{Says}
-use Rattle.job_files.specs.Logs.Sayings.{Saying}
+use Rattle.job_files.specs.Logs.JobReports.{JobReport}
 use Rattle.prune_log.specs.Spelling.{frame_bytes}
 use Rattle.job_seal.specs.Proofs.{AreShown, IsEnd, Shown, all_accepted}
 use Rattle.job_stats.specs.declared.numbers.LevelNumbers.{LevelNumbers}
@@ -74,8 +74,8 @@ pub record IsSealText (file text : List ℕ) (status : ℕ) : Type 0 where
 
 -- The text on logs. Status 0 and 1: what is to be said of the file and the logs, as `IsSaid` tells; 6: it is no file of version 2; 7: there
 -- are more than 2^30 bytes of logs.
-pub record IsTextOnLogs (IsSaid : Saying → Type 0) (file logs text : List ℕ) (status : ℕ) : Type 0 where
-  pub judged : (status ≡ 0) ⊎ (status ≡ 1) → (said : Saying) × IsSaid said × (text ≡ concat said.texts) × (status ≡ said.status)
+pub record IsTextOnLogs (IsSaid : JobReport → Type 0) (file logs text : List ℕ) (status : ℕ) : Type 0 where
+  pub judged : (status ≡ 0) ⊎ (status ≡ 1) → (said : JobReport) × IsSaid said × (text ≡ concat said.texts) × (status ≡ said.status)
   pub no_index : status ≡ 6 → IsUnopenedText file text
   pub long : status ≡ 7 → (2 ^ 30 < length logs) × (text ≡ codes "fault long\n")
   pub statuses : (status ≡ 0) ⊎ ((status ≡ 1) ⊎ ((status ≡ 6) ⊎ (status ≡ 7)))

@@ -1,14 +1,14 @@
 // Answers queries.
 ghost use Rattle.std.specs.Prelude.{◌≡◌, ◌⊎◌, ◌≤◌, ◌^◌, ℕ, List, Ok, Some, length, IfOk, IfErr};
-ghost use Rattle.node_page.specs.Heads.{IsLawfulHead};
+ghost use Rattle.node_page.specs.Heads.{IsValidHead};
 ghost use Rattle.node_page.specs.Opening.{OpensTo};
-ghost use Rattle.log_model.specs.Grammar.{IsLawfulLog};
+ghost use Rattle.log_model.specs.Grammar.{IsValidLog};
 ghost use Rattle.rows_text.specs.declared.command.Command.{Command};
 ghost use Rattle.rows_text.specs.declared.command.Command.TheVariants as command;
 ghost use Rattle.rows_text.specs.declared.reply.Reply.TheVariants as reply;
 ghost use Rattle.job_files.specs.Jobs.{IsNoIndex};
 ghost use Rattle.image_answers.specs.declared.outcome.Outcome.TheVariants as outcome;
-ghost use Rattle.image_answers.specs.Outcomes.{IsLawful};
+ghost use Rattle.image_answers.specs.Outcomes.{IsValid};
 ghost use Rattle.mtree_c.specs.Answers.{ComesTo, HandsAnswer, HasNoAnswer, IsUnanswered, frame_for, status_of};
 
 use crate::rooms::put_hits;
@@ -64,7 +64,7 @@ pub struct Answer {
 pub fn open_file(alloc: Global, file: &[u8]) -> Result<(Head, Live), u8>
     ensures opens { IfOk result (λ opened. OpensTo file.now opened.0 opened.1) }
     ensures version { IfOk result (λ opened. opened.0.version ≡ 2) }
-    ensures head { IfOk result (λ opened. IsLawfulHead opened.0) }
+    ensures head { IfOk result (λ opened. IsValidHead opened.0) }
     ensures pages { IfOk result (λ opened. opened.1.pages ≤ 2 ^ 24) }
     ensures status { IfErr result (λ status. (status ≡ 6) × ((name : List ℕ) × IsNoIndex file.now name)) }
 {
@@ -78,9 +78,9 @@ pub fn open_file(alloc: Global, file: &[u8]) -> Result<(Head, Live), u8>
 
 // Returns the answer in the outcome of a query, or the status where there is none.
 pub fn answer_of(came: Result<Outcome, Memory>) -> Result<Answer, u8>
-    requires { IfOk came IsLawful }
+    requires { IfOk came IsValid }
     ensures each { IfOk result (λ a. length a.tags ≡ length a.hits) }
-    ensures log { IfOk result (λ a. IsLawfulLog a.log) }
+    ensures log { IfOk result (λ a. IsValidLog a.log) }
     ensures answered { IfOk result (λ a. came ≡ Ok (outcome.Done (reply.Hits a.hits a.tags) (Some a.log))) }
     ensures unanswered { IfErr result (λ status. (status ≡ status_of came) × IsUnanswered came) }
 {
@@ -97,7 +97,7 @@ pub fn answer_of(came: Result<Outcome, Memory>) -> Result<Answer, u8>
 // Answers a range query on the bytes of a file, or returns the status where it has no answer.
 fn range_answer(alloc: Global, file: &[u8], point: &[u32], radius: u64) -> Result<Answer, u8>
     ensures each { IfOk result (λ a. length a.tags ≡ length a.hits) }
-    ensures log { IfOk result (λ a. IsLawfulLog a.log) }
+    ensures log { IfOk result (λ a. IsValidLog a.log) }
     ensures answered { IfOk result (λ a. ComesTo file.now (command.Range radius point.now)
         (outcome.Done (reply.Hits a.hits a.tags) (Some a.log))) }
     ensures unanswered { IfErr result (HasNoAnswer file.now (command.Range radius point.now)) }
@@ -119,7 +119,7 @@ fn range_answer(alloc: Global, file: &[u8], point: &[u32], radius: u64) -> Resul
 // Answers a k-NN query on the bytes of a file, or returns the status where it has no answer.
 fn nearest_answer(alloc: Global, file: &[u8], point: &[u32], count: u64) -> Result<Answer, u8>
     ensures each { IfOk result (λ a. length a.tags ≡ length a.hits) }
-    ensures log { IfOk result (λ a. IsLawfulLog a.log) }
+    ensures log { IfOk result (λ a. IsValidLog a.log) }
     ensures answered { IfOk result (λ a. ComesTo file.now (command.Nearest count point.now)
         (outcome.Done (reply.Hits a.hits a.tags) (Some a.log))) }
     ensures unanswered { IfErr result (HasNoAnswer file.now (command.Nearest count point.now)) }
@@ -143,7 +143,7 @@ fn nearest_answer(alloc: Global, file: &[u8], point: &[u32], count: u64) -> Resu
 
 // Returns the frame of a log, or nothing where there is no room at all.
 fn frame_for(alloc: Global, log: &Log, room: &[u8]) -> Result<Vec<u8>, Memory>
-    requires { IsLawfulLog log.now }
+    requires { IsValidLog log.now }
     ensures { IfOk result (λ bytes. bytes.items ≡ frame_for room.now log.now) }
 {
     let mut bytes = Vec::new(alloc);
@@ -162,7 +162,7 @@ fn hand_over(
     sizes: &mut Sizes,
 ) -> u8
     requires each { IfOk answer (λ a. length a.tags ≡ length a.hits) }
-    requires log { IfOk answer (λ a. IsLawfulLog a.log) }
+    requires log { IfOk answer (λ a. IsValidLog a.log) }
     ensures { (file : List ℕ) (c : Command) →
         IfOk answer (λ a. ComesTo file c (outcome.Done (reply.Hits a.hits a.tags) (Some a.log))) → IfErr answer (HasNoAnswer file c)
         → HandsAnswer file c hits.old hits.new log.old log.new sizes.new result }

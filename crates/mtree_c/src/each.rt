@@ -50,23 +50,23 @@ fn asks_some(ask: Ask) -> bool
     }
 }
 
-// Returns whether `size` numbers are `rows` points of `words` numbers each.
-fn are_rows(size: usize, rows: usize, words: usize) -> bool
-    ensures { IsTrue result ↔ (size ≡ rows * words) }
+// Returns whether `size` numbers are `rows` points of `dimension` numbers each.
+fn are_rows(size: usize, rows: usize, dimension: usize) -> bool
+    ensures { IsTrue result ↔ (size ≡ rows * dimension) }
 {
-    match rows.checked_mul(words) {
+    match rows.checked_mul(dimension) {
         Some(cells) => cells == size,
         None => false,
     }
 }
 
-// Returns point `i` of `points`, which have `words` numbers each and stand one after another.
-fn row_of(points: &[u32], words: usize, i: usize) -> &[u32]
-    requires { i * words + words ≤ length points.now }
-    ensures { result.now ≡ take words (drop (i * words) points.now) }
+// Returns point `i` of `points`, which have `dimension` numbers each and stand one after another.
+fn row_of(points: &[u32], dimension: usize, i: usize) -> &[u32]
+    requires { i * dimension + dimension ≤ length points.now }
+    ensures { result.now ≡ take dimension (drop (i * dimension) points.now) }
 {
-    let start = i * words;
-    &points[start..start + words]
+    let start = i * dimension;
+    &points[start..start + dimension]
 }
 
 // Returns the outcome of `ask` about `point`, with the tags of its hits.
@@ -158,9 +158,9 @@ fn answer_rows(
         hits: Vec::new(alloc),
         counts: Vec::new(alloc),
     };
-    let words = usize::from(opened.0.dim);
+    let dimension = usize::from(opened.0.dim);
     for i in 0..rows {
-        let answer = answer_on(alloc, pages, opened, ask, row_of(points, words, i))?;
+        let answer = answer_on(alloc, pages, opened, ask, row_of(points, dimension, i))?;
         if push_answer(&mut joined, answer).is_err() {
             return Err(MEMORY);
         }

@@ -1,6 +1,6 @@
 // Makes a new index in the caller's buffer.
 ghost use Rattle.std.specs.Prelude.{◌≡◌, IfSome, IfNone};
-ghost use Rattle.node_page.specs.Heads.{IsLawfulHead, is_limit, is_policy, is_space};
+ghost use Rattle.node_page.specs.Heads.{IsValidHead, is_limit, is_policy, is_space};
 ghost use Rattle.shadow_root.specs.Making.{IsMade};
 ghost use Rattle.mtree_c.specs.Making.{HandsIndex, head_with};
 
@@ -57,8 +57,8 @@ fn is_limit(limit: u32) -> bool
 #[tactic(auto, unfolding(node_page::specs::Heads::is_version))]
 fn head_of(shape: &Shape) -> Option<Head>
     ensures head { IfSome result (λ head. head ≡ head_with shape.now) }
-    ensures lawful { IfSome result IsLawfulHead }
-    ensures none { IfNone result (¬ IsLawfulHead (head_with shape.now)) }
+    ensures valid { IfSome result IsValidHead }
+    ensures none { IfNone result (¬ IsValidHead (head_with shape.now)) }
 {
     if !is_space(shape.kind, shape.dim) {
         return None;
@@ -81,7 +81,7 @@ fn head_of(shape: &Shape) -> Option<Head>
 
 // Makes the file of an empty index. Returns none where memory ran out.
 fn made(alloc: Global, head: &Head) -> Option<Vec<u8>>
-    requires lawful { IsLawfulHead head.now }
+    requires valid { IsValidHead head.now }
     requires version { head.now.version ≡ 2 }
     ensures { IfSome result (λ file. IsMade head.now file.items) }
 {

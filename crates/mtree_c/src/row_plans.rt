@@ -21,7 +21,7 @@ fn given_rows(
     tags: &[u64],
 ) -> Result<GivenRows, u8>
     ensures are { IfOk result (λ given. AreRows width count tagged rows.now tags.now) }
-    ensures rows { IfOk result (λ given. given.rows ≡ record { words = width; points = rows_of width count rows.now }) }
+    ensures rows { IfOk result (λ given. given.rows ≡ record { dimension = width; points = rows_of width count rows.now }) }
     ensures tags { IfOk result (λ given. given.tags ≡ tags_if tagged tags.now) }
     ensures no_rows { IfErr result (λ status. ((status ≡ 2) × (¬ AreRows width count tagged rows.now tags.now))
         ⊎ ((status ≡ 8) × AreRows width count tagged rows.now tags.now)) }
@@ -57,7 +57,8 @@ pub extern "C" fn mtree_load_plan(
     sizes: &mut PlanSizes,
 ) -> u8
     ensures plan { AreRows width count tagged rows.now tags.now →
-        HandsPlan (IsAsked (load_of (record { words = width; points = rows_of width count rows.now }) (tags_if tagged tags.now)) file.now)
+        HandsPlan (IsAsked (load_of (record { dimension = width; points = rows_of width count rows.now })
+        (tags_if tagged tags.now)) file.now)
         steps.old steps.new written.old written.new text.old text.new log.old log.new sizes.new result }
     ensures no_rows { ¬ AreRows width count tagged rows.now tags.now →
         (result ≡ 2) × (steps.new ≡ steps.old) × (written.new ≡ written.old) × (text.new ≡ text.old) × (log.new ≡ log.old) }
@@ -98,7 +99,7 @@ pub extern "C" fn mtree_insert_plan(
     sizes: &mut PlanSizes,
 ) -> u8
     ensures plan { AreRows width count tagged rows.now tags.now →
-        HandsPlan (IsAsked (inserts_of (record { words = width; points = rows_of width count rows.now })
+        HandsPlan (IsAsked (inserts_of (record { dimension = width; points = rows_of width count rows.now })
         (tags_if tagged tags.now)) file.now)
         steps.old steps.new written.old written.new text.old text.new log.old log.new sizes.new result }
     ensures no_rows { ¬ AreRows width count tagged rows.now tags.now →

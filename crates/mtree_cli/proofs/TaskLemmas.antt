@@ -55,7 +55,7 @@ is_used part words found named is same used free = true≢false (sym used ∙ sy
 -- no call was made
 pub unchanged : (disk : DiskState) → IsUnchanged disk disk
 unchanged disk = record {
-  same_tells = refl;
+  same_known = refl;
   same_bytes = refl;
   same_images = λ image. (λ left. left, λ left. left);
   time = started disk (MayLeave disk) (λ image left. left);
@@ -144,7 +144,7 @@ no_join_logs_judged what disk other left o0 o1 line = record {
 
 -- a run where memory runs out refuses no file
 no_file_refused : (disk other : DiskState) → RefusesNothing disk other 8
-no_file_refused disk other tells told empty head points tags is = (λ e. absurd (omega (arith, e)), λ e. absurd (omega (arith, e)), λ e. absurd (omega (arith, e)))
+no_file_refused disk other is_known told empty head points tags is = (λ e. absurd (omega (arith, e)), λ e. absurd (omega (arith, e)), λ e. absurd (omega (arith, e)))
 
 -- running out of memory is no failed output
 is_no_sink : LogStop → Type 0
@@ -178,7 +178,7 @@ does_at_memory Shape disk other input left v o0 o1 line = record {
   not_index = λ is. absurd (omega arith);
   memory = λ is. line;
   damaged = λ is. absurd (omega arith);
-  sound = λ tells head live sound. (λ is. absurd (omega arith), λ is. absurd (omega arith));
+  sound = λ is_known head live sound. (λ is. absurd (omega arith), λ is. absurd (omega arith));
 }
 does_at_memory Stats disk other input left v o0 o1 line = record {
   unchanged = unchanged disk;
@@ -188,7 +188,7 @@ does_at_memory Stats disk other input left v o0 o1 line = record {
   not_index = λ is. absurd (omega arith);
   memory = λ is. line;
   damaged = λ is. absurd (omega arith);
-  sound = λ tells head live sound. (λ is. absurd (omega arith), λ is. absurd (omega arith));
+  sound = λ is_known head live sound. (λ is. absurd (omega arith), λ is. absurd (omega arith));
 }
 does_at_memory Dump disk other input left v o0 o1 line = record {
   unchanged = unchanged disk;
@@ -198,7 +198,7 @@ does_at_memory Dump disk other input left v o0 o1 line = record {
   not_index = λ is. absurd (omega arith);
   memory = λ is. inl line;
   damaged = λ is. absurd (omega arith);
-  sound = λ tells head live sound. (λ is. absurd (omega arith), λ is. absurd (omega arith));
+  sound = λ is_known head live sound. (λ is. absurd (omega arith), λ is. absurd (omega arith));
 }
 does_at_memory (Show what) disk other input left v o0 o1 line = no_logs_shown what disk left o0 o1 line
 does_at_memory (ShowJoins what) disk other input left v o0 o1 line = no_join_logs_shown what disk other left o0 o1 line
@@ -245,7 +245,7 @@ does_at_memory ProofByIndex disk other input left v o0 o1 line = record {
   all = λ a b other. absurd (b refl);
   unchanged = unchanged disk;
   done = λ is. ⊎_elim (λ e. absurd (omega arith)) (λ e. absurd (omega arith)) is;
-  halted = λ tells. record {
+  halted = λ is_known. record {
     output = λ is. absurd (omega arith);
     disk = λ is. absurd (omega arith);
     memory = λ is. (o0.written, inl (no_output, refl, refl), line);
@@ -410,32 +410,32 @@ join_logs_rose left0 left1 what d0 d1 e0 e1 o0 o1 status told is = ((told.judges
 pub join_rose : (radius : ℕ) (d0 d1 e0 e1 : DiskState) (o0 o1 v0 v1 : SinkState) (status : ℕ) → Joins radius d0 d1 e0 e1 o0 o1 v0 v1 status → status ≡ 5 → Rose d0.faults d1.faults ⊎ Rose e0.faults e1.faults
 join_rose radius d0 d1 e0 e1 o0 o1 v0 v1 status told is = (told.disk is).0
 
--- a lawful space is one of a head
-pub lawful_space : (metric : MetricName) (dim : ℕ) → 1 ≤ dim → dim ≤ 64 → (is_halved metric ≡ true → dim % 2 ≡ 0) → IsTrue (is_space (kind_of metric) dim)
+-- a valid space is one of a head
+pub valid_space : (metric : MetricName) (dim : ℕ) → 1 ≤ dim → dim ≤ 64 → (is_halved metric ≡ true → dim % 2 ≡ 0) → IsTrue (is_space (kind_of metric) dim)
 unfolding is_space
-lawful_space Hamming dim some few halves = grind (arith)
-lawful_space L1 dim some few halves = grind (arith)
-lawful_space Max dim some few halves = grind (arith)
-lawful_space Kendall dim some few halves = grind (arith)
-lawful_space Hausdorff dim some few halves = grind (arith)
-lawful_space MixSum dim some few halves = let even : dim % 2 ≡ 0 = halves refl in grind (arith)
-lawful_space MixMax dim some few halves = let even : dim % 2 ≡ 0 = halves refl in grind (arith)
-lawful_space L1Cap dim some few halves = grind (arith)
+valid_space Hamming dim some few halves = grind (arith)
+valid_space L1 dim some few halves = grind (arith)
+valid_space Max dim some few halves = grind (arith)
+valid_space Kendall dim some few halves = grind (arith)
+valid_space Hausdorff dim some few halves = grind (arith)
+valid_space MixSum dim some few halves = let even : dim % 2 ≡ 0 = halves refl in grind (arith)
+valid_space MixMax dim some few halves = let even : dim % 2 ≡ 0 = halves refl in grind (arith)
+valid_space L1Cap dim some few halves = grind (arith)
 
-pub lawful_version : IsTrue (is_version 2)
+pub valid_version : IsTrue (is_version 2)
 unfolding is_version
-lawful_version = refl
+valid_version = refl
 
-pub lawful_policy : (promote : Promote) (split : Split) → IsTrue (is_policy (promote_number promote) (split_number split))
+pub valid_policy : (promote : Promote) (split : Split) → IsTrue (is_policy (promote_number promote) (split_number split))
 unfolding is_policy
-lawful_policy Mrad Hyperplane = refl
-lawful_policy Mrad Balanced = refl
-lawful_policy Mmrad Hyperplane = refl
-lawful_policy Mmrad Balanced = refl
+valid_policy Mrad Hyperplane = refl
+valid_policy Mrad Balanced = refl
+valid_policy Mmrad Hyperplane = refl
+valid_policy Mmrad Balanced = refl
 
-pub lawful_limit : (limit : ℕ) → 1 ≤ limit → limit ≤ 16777216 → IsTrue (is_limit limit)
+pub valid_limit : (limit : ℕ) → 1 ≤ limit → limit ≤ 16777216 → IsTrue (is_limit limit)
 unfolding is_limit
-lawful_limit limit some few = grind (arith)
+valid_limit limit some few = grind (arith)
 
 -- a generated point is a vector
 pub generated_kind : (metric : MetricName) → is_generated metric ≡ true → (kind_of metric ≢ 4) × (kind_of metric ≢ 5)
@@ -450,8 +450,8 @@ generated_kind L1Cap is = ((λ e. (omega (arith, e))), (λ e. (omega (arith, e))
 
 -- the numbers of names
 pub named_space : (kind : ℕ) (metric : MetricName) (dim : ℕ) → kind ≡ kind_of metric → 1 ≤ dim → dim ≤ 64 → (is_halved metric ≡ true → dim % 2 ≡ 0) → IsTrue (is_space kind dim)
-named_space kind metric dim is some few halves = subst (λ (k : ℕ). IsTrue (is_space k dim)) (sym is) (lawful_space metric dim some few halves)
+named_space kind metric dim is some few halves = subst (λ (k : ℕ). IsTrue (is_space k dim)) (sym is) (valid_space metric dim some few halves)
 
 pub named_policy : (a b : ℕ) (promote : Promote) (split : Split) → a ≡ promote_number promote → b ≡ split_number split → IsTrue (is_policy a b)
 named_policy a b promote split first second =
-    subst (λ (k : ℕ). IsTrue (is_policy k b)) (sym first) (subst (λ (k : ℕ). IsTrue (is_policy (promote_number promote) k)) (sym second) (lawful_policy promote split))
+    subst (λ (k : ℕ). IsTrue (is_policy k b)) (sym first) (subst (λ (k : ℕ). IsTrue (is_policy (promote_number promote) k)) (sym second) (valid_policy promote split))

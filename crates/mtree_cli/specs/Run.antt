@@ -182,7 +182,7 @@ uses_of words = uses (task_of (job_of words))
 
 -- a task that uses this reads all pages of the index into memory, and the index has too many for that
 abbrev pub HasTooManyPages : Uses → DiskState → Type 0
-HasTooManyPages used disk = (used.reads_all ≡ true) × (IsTrue disk.tells → IsLarge disk.bytes)
+HasTooManyPages used disk = (used.reads_all ≡ true) × (IsTrue disk.is_known → IsLarge disk.bytes)
 
 -- ---- what each task does
 

@@ -4,8 +4,8 @@ ghost use Rattle.outside_io.specs.Causes.{Rose};
 ghost use Rattle.disk_model.specs.Disk.{IsUnchanged};
 ghost use Rattle.job_words.specs.Words.{texts_of};
 ghost use Rattle.job_words.specs.Jobs.{job_of};
-ghost use Rattle.job_words.specs.Lawful.{IsLawfulSpace, IsLimit};
-ghost use Rattle.node_page.specs.Heads.{IsLawfulHead};
+ghost use Rattle.job_words.specs.Valid.{IsValidSpace, IsLimit};
+ghost use Rattle.node_page.specs.Heads.{IsValidHead};
 ghost use Rattle.job_logs.specs.Laws.{FaultlessIsComplete};
 ghost use Rattle.job_join.specs.Trees.{Tree, IsOpened};
 ghost use Rattle.job_join.specs.Laws.{FaultlessIsComplete as JoinFaultlessIsComplete};
@@ -51,10 +51,10 @@ const MOST_OBJECTS: u32 = 16_777_216;
 
 // Returns the head of a new file.
 fn new_head(space: SpaceName, policies: PolicyNames, limit: u32) -> Head
-    requires space { IsLawfulSpace space }
+    requires space { IsValidSpace space }
     requires limit { IsLimit limit }
     ensures head { result ≡ new_head space policies limit }
-    ensures lawful { IsLawfulHead result }
+    ensures valid { IsValidHead result }
 {
     Head {
         version: 2,

@@ -35,8 +35,8 @@ named_puts puts (Some sink) = puts sink
 -- ---- the laws of disks
 
 module _ {D : Type 0} (state : D → DiskState) where
-  pub named_read : ((disk : D) → IsTrue (state disk).tells → MayLeave (state disk) (state disk).bytes)
-      → (file : Option D) → IsTrue (named_disk state file).tells → MayLeave (named_disk state file) (named_disk state file).bytes
+  pub named_read : ((disk : D) → IsTrue (state disk).is_known → MayLeave (state disk) (state disk).bytes)
+      → (file : Option D) → IsTrue (named_disk state file).is_known → MayLeave (named_disk state file) (named_disk state file).bytes
   named_read law None told = told_nothing told
   named_read law (Some disk) told = law disk told
 

@@ -24,13 +24,13 @@ use Rattle.nearest_search.specs.declared.pending.Pending.{Pending}
 use Rattle.nearest_search.specs.Counts.{IsRadius, total}
 use Rattle.nearest_search.specs.Machine.{level_of, objects_below, count_near, pending_of, pending_root, reaches, opens, opens_of, one_page, entries_of, IsFinal, IsPending, Holds}
 use Rattle.nearest_search.specs.Searched.{marks_in}
-use Rattle.nearest_search.specs.Relog.{IsStopped}
+use Rattle.nearest_search.specs.RebuiltLog.{IsStopped}
 use Rattle.nearest_search.specs.Keeping.{Sheets, IsKept}
 use Rattle.nearest_search.proofs.Totals.{total-none, total-permutation}
 use Rattle.nearest_search.proofs.Near.{level_is}
 use Rattle.nearest_search.proofs.Steps.{final_at_end, next_low}
 use Rattle.nearest_search.proofs.Radius.{radius_at}
-use Rattle.nearest_search.proofs.KeptWalk.{relog_whole}
+use Rattle.nearest_search.proofs.KeptWalk.{rebuilding_whole}
 use Rattle.nearest_search.proofs.Fuel.{opens_few, has_final, records_of, marks_entries, total_ones, total_records}
 
 pub all_low : (f : Search) (os : List LeafEntry) → AllByRecursion (λ o. 0 ≤ away f o.point) os
@@ -41,7 +41,7 @@ pub opens_some : (f : Search) (nodes : Nodes) (h page : ℕ) → 1 ≤ opens one
 opens_some f nodes zero page = omega arith
 opens_some f nodes (suc h) page = omega arith
 
-module _ (s : Space) (axioms : IsSpace s) (nodes : Nodes) (live : Live) (q : List ℕ) (q_fits : IsTrue (s.fits q)) (k : ℕ) (sound : IsSoundTree s nodes live) where
+module _ (s : Space) (axioms : IsSpace s) (nodes : Nodes) (live : Live) (q : List ℕ) (q_fits : IsTrue (s.is_point q)) (k : ℕ) (sound : IsSoundTree s nodes live) where
   abbrev pub root : ℕ
   root = live.root
 
@@ -65,7 +65,7 @@ module _ (s : Space) (axioms : IsSpace s) (nodes : Nodes) (live : Live) (q : Lis
         least = root_least live.height;
         above = None;
         sound = sound.parts;
-        fits = tt;
+        is_point = tt;
         above_is = refl;
         low_is = all_low (search_at s q 0) (objects_at nodes live.height root);
       }
@@ -132,7 +132,7 @@ module _ (s : Space) (axioms : IsSpace s) (nodes : Nodes) (live : Live) (q : Lis
     ends hits records left reached stopped = (walk, long, prunes, entries)
       where
         walk : WalksBy AreLeast f nodes (root_need live.root ∷ []) records hits
-        walk = relog_whole f nodes kept children_kept live sound root_kept records hits left reached stopped
+        walk = rebuilding_whole f nodes kept children_kept live sound root_kept records hits left reached stopped
 
         named : hits ≡ answers_in f (objects nodes live)
         named = root_names s axioms nodes live sound f refl q_fits records hits (walks_wider AreLeast AreAllowed f nodes (least_allowed f) (root_need live.root ∷ []) records hits walk)

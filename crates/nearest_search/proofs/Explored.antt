@@ -15,7 +15,7 @@ use Rattle.tree_shape.specs.declared.entry.InnerEntry.{InnerEntry}
 use Rattle.tree_shape.specs.declared.entry.Node.{Node}
 use Rattle.tree_shape.specs.declared.entry.Node.TheVariants.{Leaf, Inner}
 use Rattle.tree_shape.specs.Tree.{Nodes, IsSoundAt, IsSoundTree, points_by_id, inner_entries}
-use Rattle.node_page.specs.Nodes.{IsLawfulNode}
+use Rattle.node_page.specs.Nodes.{IsValidNode}
 use Rattle.page_store.specs.declared.pages.PageFault.{PageFault}
 use Rattle.page_store.specs.declared.pages.PageFault.TheVariants.{Disk, Bad, Outside, Memory, Repeats, Level}
 use Rattle.page_store.specs.Reading.{Read, IsWithin, is_within, nodes_of, node_or_none}
@@ -27,12 +27,12 @@ use Rattle.log_model.specs.declared.marks.Record.{Record}
 use Rattle.log_model.specs.declared.marks.Need.{Need}
 use Rattle.log_model.specs.declared.traversal.Traversal.{Traversal}
 use Rattle.log_model.specs.Counts.{entry_count}
-use Rattle.log_model.specs.Grammar.{IsLawfulQuery}
+use Rattle.log_model.specs.Grammar.{IsValidQuery}
 use Rattle.log_model.specs.Sound.{IsLogOf, IsLeastLog, selected, search_for}
 use Rattle.log_model.specs.Laws.{scan_answers}
 use Rattle.log_model.specs.Steps.{TakesNode}
 use Rattle.log_model.specs.Walk.{Search, search_at, AreLeast, WalksBy, ReachesBy, least_marks, near_ones, hits_of, needs_of, record_of, root_need}
-use Rattle.log_model.proofs.Published.{lawful_log, sound_complete, least_sound, count_up_more, reaches_more}
+use Rattle.log_model.proofs.Published.{valid_log, sound_complete, least_sound, count_up_more, reaches_more}
 use Rattle.nearest_search.specs.declared.pending.Pending.{Pending}
 use Rattle.nearest_search.specs.Counts.{IsRadius}
 use Rattle.nearest_search.specs.Queue.{IsNext}
@@ -43,7 +43,7 @@ use Rattle.nearest_search.specs.Seeing.{IsSeenOf, object_sight, subtree_sight, s
 use Rattle.nearest_search.specs.Keeping.{Sheets, kept_seen, IsKept, AreSeenOf, KeepsFew}
 use Rattle.nearest_search.specs.Machine.{pending_root, pending_of, pendings_of, dists_of, entries_in, entries_of}
 use Rattle.nearest_search.specs.Opened.{State, Takes, IsOpened}
-use Rattle.nearest_search.specs.Relog.{TakesSeen, IsRelogging, IsRelogged, IsStopped}
+use Rattle.nearest_search.specs.RebuiltLog.{TakesSeen, IsRebuilding, IsRebuiltLog, IsStopped}
 use Rattle.nearest_search.specs.Searched.{marks_in, IsReachedBy, IsReached, IsExploring, IsExplored, HasNearestCause, IsFront, IsNearest}
 use Rattle.nearest_search.proofs.Totals.{in-permutation, in-permutation_back, within_all}
 use Rattle.nearest_search.proofs.Steps.{step}
@@ -52,9 +52,9 @@ use Rattle.nearest_search.proofs.Seeing.{objects_marked, objects_named, subtrees
 use Rattle.nearest_search.proofs.Walking.{walk_opens, opens_before}
 use Rattle.page_store.proofs.Published.{holds_both, told_then}
 
-entries_few : (dim : ℕ) (node : Node) → IsLawfulNode dim node → entry_count node ≤ 32
-entries_few dim (Leaf es) lawful = let few = lawful.0 in omega arith
-entries_few dim (Inner level es) lawful = let few = lawful.3 in omega arith
+entries_few : (dim : ℕ) (node : Node) → IsValidNode dim node → entry_count node ≤ 32
+entries_few dim (Leaf es) valid = let few = valid.0 in omega arith
+entries_few dim (Inner level es) valid = let few = valid.3 in omega arith
 
 -- as many entries were seen as the node has
 seen_all : (s : Space) (q : List ℕ) (rho : ℕ) (above : Option ℕ) (node : Node) (seen : Seen) → IsSeenOf s q rho above node seen → length (sights seen) ≡ entry_count node
@@ -135,27 +135,27 @@ queued_child f above (Inner level es) x k =
 abbrev pub first_state : Live → ℕ → State
 first_state live used = record { queue = pending_root live.root ∷ []; best = []; kept = kept_seen []; used = used }
 
-module _ (s : Space) (axioms : IsSpace s) (old : Shelf) (live : Live) (q : List ℕ) (q_fits : IsTrue (s.fits q)) (k used : ℕ) where
+module _ (s : Space) (axioms : IsSpace s) (old : Shelf) (live : Live) (q : List ℕ) (q_fits : IsTrue (s.is_point q)) (k used : ℕ) where
   pub explore_begins : IsExploring s old old live q k (first_state live used) 0 used
   explore_begins = record {
-    same = record { dim = refl; pages = refl; tells = refl; read = refl; faults = (omega arith) };
+    same = record { dim = refl; pages = refl; is_known = refl; read = refl; faults = (omega arith) };
     asked = refl;
     reads = omega arith;
     few = omega arith;
     keeps_few = λ page above seen is. absurd (cc);
     begun = inr (inl refl);
-    agrees = λ tells rho radius page above seen is. absurd (cc);
-    reached = λ tells x k. elim k [ inl e ↦ ([], sym (ap (λ (y : Pending). y.page) e)) | inr w ↦ absurd w ];
-    walk = λ tells. record { opened = []; walk = λ k. omega arith; count_is = refl };
+    agrees = λ is_known rho radius page above seen is. absurd (cc);
+    reached = λ is_known x k. elim k [ inl e ↦ ([], sym (ap (λ (y : Pending). y.page) e)) | inr w ↦ absurd w ];
+    walk = λ is_known. record { opened = []; walk = λ k. omega arith; count_is = refl };
     pages = [];
     long = refl;
-    spent = λ tells. omega arith;
-    holds = λ tells sound. begins s axioms (nodes_of old.read) live q q_fits k sound;
+    spent = λ is_known. omega arith;
+    holds = λ is_known sound. begins s axioms (nodes_of old.read) live q q_fits k sound;
   }
 
   module _ (now : Shelf) (state : State) (opened : ℕ) (before : IsExploring s old now live q k state opened used) (rho : ℕ) (radius : IsRadius k state.best rho) (next : Pending) (rest : List Pending) (first : IsNext rho state.queue next rest) where
-    next_reached : IsTrue old.tells → IsReached (nodes_of old.read) live.root next.page
-    next_reached tells = before.reached tells next (in-permutation_back state.queue (next ∷ rest) next first.popped (inl refl))
+    next_reached : IsTrue old.is_known → IsReached (nodes_of old.read) live.root next.page
+    next_reached is_known = before.reached is_known next (in-permutation_back state.queue (next ∷ rest) next first.popped (inl refl))
 
     pub explore_steps : (f : Search) (j : ℕ) (new : Shelf) (after : State) → f ≡ search_at s q rho → j ≡ k →
         IsOpened f now j next (record { queue = rest; best = state.best; kept = state.kept; used = state.used }) after → HoldsSame now new →
@@ -170,7 +170,7 @@ module _ (s : Space) (axioms : IsSpace s) (old : Shelf) (live : Live) (q : List 
           reads = (let b = before.reads in omega arith);
           few = omega arith;
           keeps_few = keeps_few_then state.kept after.kept next.page next.above done.seen done.here done.others before.keeps_few
-              (let all = seen_all s q rho next.above done.node done.seen done.seen_is in let few = entries_few now.dim done.node done.is.lawful in omega arith);
+              (let all = seen_all s q rho next.above done.node done.seen done.seen_is in let few = entries_few now.dim done.node done.is.valid in omega arith);
           begun = elim before.begun [
             | inl w ↦ inl (omega arith, kept_then state.kept after.kept next.page next.above done.seen done.here done.others live.root None w.1)
             | inr waits ↦
@@ -181,32 +181,32 @@ module _ (s : Space) (axioms : IsSpace s) (old : Shelf) (live : Live) (q : List 
                       (in-append_right (pendings_of (search_at s q rho) next.above done.node) rest (pending_root live.root) left))
                 ]
           ];
-          agrees = λ tells low then_radius.
+          agrees = λ is_known low then_radius.
               seen_then state.kept after.kept next.page next.above done.seen done.here done.others s q (nodes_of old.read) rho low
-              (radius_falls k state.best after.best (dists_of (search_at s q rho) next.above done.node) rho low radius done.noted then_radius) (before.agrees tells rho radius)
-              done.node (told_then old now next.page done.node before.same done.is tells) done.seen_is;
-          reached = λ tells x k.
+              (radius_falls k state.best after.best (dists_of (search_at s q rho) next.above done.node) rho low radius done.noted then_radius) (before.agrees is_known rho radius)
+              done.node (told_then old now next.page done.node before.same done.is is_known) done.seen_is;
+          reached = λ is_known x k.
               elim (in-append (pendings_of (search_at s q rho) next.above done.node) rest x (in-permutation_back (pendings_of (search_at s q rho) next.above done.node ++ rest) after.queue x done.pushed k)) [
                 | inl new ↦
                     let child = queued_child (search_at s q rho) next.above done.node x new in
-                    let here = next_reached tells in
-                    let there : nodes_of old.read next.page ≡ Some done.node = told_then old now next.page done.node before.same done.is tells in (
+                    let here = next_reached is_known in
+                    let there : nodes_of old.read next.page ≡ Some done.node = told_then old now next.page done.node before.same done.is is_known in (
                       here.0 ++ child.0.child ∷ [],
                       subst (λ (p : ℕ). IsReachedBy (nodes_of old.read) live.root (here.0 ++ child.0.child ∷ []) p) (sym child.2)
                           (child_reached (nodes_of old.read) live.root next.page here.0 child.0 (subst (λ (o : Option Node). IsIn child.0 (inner_entries o)) (sym there) child.1) here.1),
                     )
-                | inr left ↦ before.reached tells x (in-permutation_back state.queue (next ∷ rest) x first.popped (inr left))
+                | inr left ↦ before.reached is_known x (in-permutation_back state.queue (next ∷ rest) x first.popped (inr left))
               ];
-          walk = λ tells.
-              walk_opens (nodes_of old.read) (live.root ∷ []) opened state.queue rest next first.popped (before.walk tells) (search_at s q rho) next.above done.node after.queue
-              (told_then old now next.page done.node before.same done.is tells) done.pushed;
+          walk = λ is_known.
+              walk_opens (nodes_of old.read) (live.root ∷ []) opened state.queue rest next first.popped (before.walk is_known) (search_at s q rho) next.above done.node after.queue
+              (told_then old now next.page done.node before.same done.is is_known) done.pushed;
           pages = next.page ∷ before.pages;
           long = (let l = before.long in omega arith);
-          spent = λ tells.
-              (let b = before.spent tells in let m = done.measured in
-              let here : entries_of (nodes_of old.read) next.page ≡ entry_count done.node = ap entries_in (told_then old now next.page done.node before.same done.is tells) in omega arith);
-          holds = λ tells sound. step s axioms q q_fits (nodes_of old.read) k live.root state.kept state.queue state.best before.pages (before.holds tells sound) rho radius next rest first.popped first.low first.first
-              done.node (told_then old now next.page done.node before.same done.is tells) after.queue done.pushed after.best done.noted after.kept done.seen done.here done.others;
+          spent = λ is_known.
+              (let b = before.spent is_known in let m = done.measured in
+              let here : entries_of (nodes_of old.read) next.page ≡ entry_count done.node = ap entries_in (told_then old now next.page done.node before.same done.is is_known) in omega arith);
+          holds = λ is_known sound. step s axioms q q_fits (nodes_of old.read) k live.root state.kept state.queue state.best before.pages (before.holds is_known sound) rho radius next rest first.popped first.low first.first
+              done.node (told_then old now next.page done.node before.same done.is is_known) after.queue done.pushed after.best done.noted after.kept done.seen done.here done.others;
         }
 
     pub explore_cause : (new : Shelf) (fault : PageFault) → HasPageCause now new next.page fault → HasNearestCause live old new fault
@@ -214,20 +214,20 @@ module _ (s : Space) (axioms : IsSpace s) (old : Shelf) (live : Live) (q : List 
     explore_cause new (Bad page fault) cause = (
       cause.1,
       subst (λ (p : ℕ). IsWithin p page) before.same.pages (subst (λ (p : ℕ). IsWithin now.pages p) (sym cause.0) cause.2),
-      λ tells. (
+      λ is_known. (
         subst (λ (p : ℕ). old.read p ≡ Err (Bad page fault)) (sym cause.0)
             (subst (λ (p : ℕ). old.read next.page ≡ Err (Bad p fault)) (sym cause.0)
-            (ap (λ (r : Read). r next.page) (sym before.same.read) ∙ cause.3 (rw before.same.tells tells))),
-        subst (λ (p : ℕ). IsReached (nodes_of old.read) live.root p) (sym cause.0) (next_reached tells),
+            (ap (λ (r : Read). r next.page) (sym before.same.read) ∙ cause.3 (rw before.same.is_known is_known))),
+        subst (λ (p : ℕ). IsReached (nodes_of old.read) live.root p) (sym cause.0) (next_reached is_known),
       ),
     )
     explore_cause new (Outside page) cause = (
       subst (λ (p : ℕ). is_within p page ≡ false) before.same.pages (subst (λ (p : ℕ). is_within now.pages p ≡ false) (sym cause.0) cause.1),
-      λ tells. (
+      λ is_known. (
         subst (λ (p : ℕ). old.read p ≡ Err (Outside page)) (sym cause.0)
             (subst (λ (p : ℕ). old.read next.page ≡ Err (Outside p)) (sym cause.0)
-            (ap (λ (r : Read). r next.page) (sym before.same.read) ∙ cause.2 (rw before.same.tells tells))),
-        subst (λ (p : ℕ). IsReached (nodes_of old.read) live.root p) (sym cause.0) (next_reached tells),
+            (ap (λ (r : Read). r next.page) (sym before.same.read) ∙ cause.2 (rw before.same.is_known is_known))),
+        subst (λ (p : ℕ). IsReached (nodes_of old.read) live.root p) (sym cause.0) (next_reached is_known),
       ),
     )
     explore_cause new Memory cause = tt
@@ -237,12 +237,12 @@ module _ (s : Space) (axioms : IsSpace s) (old : Shelf) (live : Live) (q : List 
     pub explore_repeats : opened ≡ live.pages → HasNearestCause live old now (Repeats next.page)
     explore_repeats all = (
       before.asked ∙ ap (count_up old.asked) all,
-      λ tells. (next_reached tells, opens_before (nodes_of old.read) (live.root ∷ []) opened state.queue rest next first.popped (before.walk tells) live.pages all),
+      λ is_known. (next_reached is_known, opens_before (nodes_of old.read) (live.root ∷ []) opened state.queue rest next first.popped (before.walk is_known) live.pages all),
     )
 
-    no_node : (page : ℕ) (fault : PageFault) → page ≡ next.page → old.read page ≡ Err fault → IsTrue old.tells → IsSoundTree s (nodes_of old.read) live → ⊥
-    no_node page fault same is tells sound =
-        let p = (before.holds tells sound).queued next (in-permutation_back state.queue (next ∷ rest) next first.popped (inl refl)) in
+    no_node : (page : ℕ) (fault : PageFault) → page ≡ next.page → old.read page ≡ Err fault → IsTrue old.is_known → IsSoundTree s (nodes_of old.read) live → ⊥
+    no_node page fault same is is_known sound =
+        let p = (before.holds is_known sound).queued next (in-permutation_back state.queue (next ∷ rest) next first.popped (inl refl)) in
         has_node p.height p.least p.above p.sound
       where
         none : nodes_of old.read next.page ≡ None
@@ -253,22 +253,22 @@ module _ (s : Space) (axioms : IsSpace s) (old : Shelf) (live : Live) (q : List 
         has_node (suc h) least above given = let n = none in let m = given.1 in cc
 
     -- on a sound tree nothing but a passing fault is refused
-    pub explore_passes : (new : Shelf) (fault : PageFault) → HasPageCause now new next.page fault → IsTrue old.tells → IsSoundTree s (nodes_of old.read) live → IsPassing fault
-    explore_passes new Disk cause tells sound = tt
-    explore_passes new Memory cause tells sound = tt
-    explore_passes new (Bad page fault) cause tells sound = absurd (no_node page (Bad page fault) cause.0 (((explore_cause new (Bad page fault) cause).2 tells).0) tells sound)
-    explore_passes new (Outside page) cause tells sound = absurd (no_node page (Outside page) cause.0 (((explore_cause new (Outside page) cause).1 tells).0) tells sound)
-    explore_passes new (Repeats page) cause tells sound = absurd cause
-    explore_passes new (Level page) cause tells sound = absurd cause
+    pub explore_passes : (new : Shelf) (fault : PageFault) → HasPageCause now new next.page fault → IsTrue old.is_known → IsSoundTree s (nodes_of old.read) live → IsPassing fault
+    explore_passes new Disk cause is_known sound = tt
+    explore_passes new Memory cause is_known sound = tt
+    explore_passes new (Bad page fault) cause is_known sound = absurd (no_node page (Bad page fault) cause.0 (((explore_cause new (Bad page fault) cause).2 is_known).0) is_known sound)
+    explore_passes new (Outside page) cause is_known sound = absurd (no_node page (Outside page) cause.0 (((explore_cause new (Outside page) cause).1 is_known).0) is_known sound)
+    explore_passes new (Repeats page) cause is_known sound = absurd cause
+    explore_passes new (Level page) cause is_known sound = absurd cause
 
-    pub explore_room : opened ≡ live.pages → IsTrue old.tells → IsSoundTree s (nodes_of old.read) live → ⊥
-    explore_room all tells sound =
-        let r = room s axioms (nodes_of old.read) live q q_fits k sound state.kept state.queue state.best before.pages (before.holds tells sound) rho radius next rest first.popped first.low first.first in
+    pub explore_room : opened ≡ live.pages → IsTrue old.is_known → IsSoundTree s (nodes_of old.read) live → ⊥
+    explore_room all is_known sound =
+        let r = room s axioms (nodes_of old.read) live q q_fits k sound state.kept state.queue state.best before.pages (before.holds is_known sound) rho radius next rest first.popped first.low first.first in
         let l = before.long in
         omega arith
 
   -- the log that is written at the end
-  pub nearest_log : 1 ≤ k → live.pages ≤ 2 ^ 24 → (kept : Sheets) (rho : ℕ) (records : List Record) (hits : List Hit) → IsRelogged rho kept live records hits → (found : Found) →
+  pub nearest_log : 1 ≤ k → live.pages ≤ 2 ^ 24 → (kept : Sheets) (rho : ℕ) (records : List Record) (hits : List Hit) → IsRebuiltLog rho kept live records hits → (found : Found) →
       found.log.generation ≡ live.generation → found.log.root ≡ live.root → found.log.query ≡ Nearest q k → found.log.records ≡ records → found.log.answers ≡ selected (Nearest q k) hits → found.hits ≡ found.log.answers →
       IsLogOf live (Nearest q k) found
   nearest_log some few kept rho records hits logged found generation root query are answers same =
@@ -279,17 +279,17 @@ module _ (s : Space) (axioms : IsSpace s) (old : Shelf) (live : Live) (q : List 
         generation_is = generation;
         root_is = root;
         query_is = query;
-        lawful = lawful_log found.log hits
-            (subst IsLawfulQuery (sym query) (record { some = rw (axioms.long q q_fits) axioms.some_words; few = rw (axioms.long q q_fits) axioms.few_words }, some))
+        valid = valid_log found.log hits
+            (subst IsValidQuery (sym query) (record { some = rw (axioms.long q q_fits) axioms.some_words; few = rw (axioms.long q q_fits) axioms.few_words }, some))
             (rw query answers) (omega arith) (rw are (omega arith)) (rw are logged.few_marks);
       }
 
-  pub nearest_ends : 1 ≤ k → (now : Shelf) (state : State) (rho opened : ℕ) → IsExplored s old now live q k state rho opened used → (records : List Record) (hits : List Hit) → IsRelogged rho state.kept live records hits →
+  pub nearest_ends : 1 ≤ k → (now : Shelf) (state : State) (rho opened : ℕ) → IsExplored s old now live q k state rho opened used → (records : List Record) (hits : List Hit) → IsRebuiltLog rho state.kept live records hits →
       (found : Found) → found.log.records ≡ records → found.log.answers ≡ selected (Nearest q k) hits → IsLogOf live (Nearest q k) found →
-      IsTrue old.tells → IsSoundTree s (nodes_of old.read) live → IsNearest s (nodes_of old.read) live q k old now found
-  nearest_ends some now state rho opened explored records hits logged found are answers named tells sound =
-      let end = ends s axioms (nodes_of old.read) live q q_fits k sound some state.kept state.queue state.best explored.exploring.pages (explored.exploring.holds tells sound) rho explored.radius explored.beyond hits records logged.left
-      (logged.walk s q (nodes_of old.read) (explored.exploring.agrees tells rho explored.radius)) logged.ends in
+      IsTrue old.is_known → IsSoundTree s (nodes_of old.read) live → IsNearest s (nodes_of old.read) live q k old now found
+  nearest_ends some now state rho opened explored records hits logged found are answers named is_known sound =
+      let end = ends s axioms (nodes_of old.read) live q q_fits k sound some state.kept state.queue state.best explored.exploring.pages (explored.exploring.holds is_known sound) rho explored.radius explored.beyond hits records logged.left
+      (logged.walk s q (nodes_of old.read) (explored.exploring.agrees is_known rho explored.radius)) logged.ends in
       let long : length found.log.records ≡ opened = ap length are ∙ end.1 ∙ explored.exploring.long in
       let search : search_at s q rho ≡ search_for s found.log.query found.log.answers =
       ap (search_at s q) (sym end.2) ∙ (λ i. search_for s (sym named.query_is i) (sym answers i)) in
@@ -315,19 +315,19 @@ module _ (s : Space) (axioms : IsSpace s) (old : Shelf) (live : Live) (q : List 
       }
 
   -- on a sound tree at most one distance was computed for each entry that the log marks
-  pub nearest_spent : 1 ≤ k → (now : Shelf) (state : State) (rho opened : ℕ) → IsExplored s old now live q k state rho opened used → (records : List Record) (hits : List Hit) → IsRelogged rho state.kept live records hits →
-      (found : Found) → found.log.records ≡ records → IsTrue old.tells → IsSoundTree s (nodes_of old.read) live → state.used ≤ used + marks_in found.log.records
-  nearest_spent some now state rho opened explored records hits logged found are tells sound =
-      let end = ends s axioms (nodes_of old.read) live q q_fits k sound some state.kept state.queue state.best explored.exploring.pages (explored.exploring.holds tells sound) rho explored.radius explored.beyond hits records logged.left
-      (logged.walk s q (nodes_of old.read) (explored.exploring.agrees tells rho explored.radius)) logged.ends in
-      let spent = explored.exploring.spent tells in
+  pub nearest_spent : 1 ≤ k → (now : Shelf) (state : State) (rho opened : ℕ) → IsExplored s old now live q k state rho opened used → (records : List Record) (hits : List Hit) → IsRebuiltLog rho state.kept live records hits →
+      (found : Found) → found.log.records ≡ records → IsTrue old.is_known → IsSoundTree s (nodes_of old.read) live → state.used ≤ used + marks_in found.log.records
+  nearest_spent some now state rho opened explored records hits logged found are is_known sound =
+      let end = ends s axioms (nodes_of old.read) live q q_fits k sound some state.kept state.queue state.best explored.exploring.pages (explored.exploring.holds is_known sound) rho explored.radius explored.beyond hits records logged.left
+      (logged.walk s q (nodes_of old.read) (explored.exploring.agrees is_known rho explored.radius)) logged.ends in
+      let spent = explored.exploring.spent is_known in
       rw are (let entries = end.3 in omega arith)
 
   -- on any tree the log is a front of the walk, with the root's record
   pub nearest_front : (now : Shelf) (state : State) (rho opened : ℕ) → IsExplored s old now live q k state rho opened used → (records : List Record) (hits : List Hit) →
-      IsRelogged rho state.kept live records hits → (found : Found) → found.log.records ≡ records → found.log.answers ≡ selected (Nearest q k) hits → IsTrue old.tells →
+      IsRebuiltLog rho state.kept live records hits → (found : Found) → found.log.records ≡ records → found.log.answers ≡ selected (Nearest q k) hits → IsTrue old.is_known →
       IsFront s (nodes_of old.read) live q k found
-  nearest_front now state rho opened explored records hits logged found are answers tells = record {
+  nearest_front now state rho opened explored records hits logged found are answers is_known = record {
     rho = rho;
     hits = hits;
     left = logged.left;
@@ -338,7 +338,7 @@ module _ (s : Space) (axioms : IsSpace s) (old : Shelf) (live : Live) (q : List 
   }
     where
       walked : ReachesBy AreLeast (search_at s q rho) (nodes_of old.read) (root_need live.root ∷ []) records hits logged.left
-      walked = logged.walk s q (nodes_of old.read) (explored.exploring.agrees tells rho explored.radius)
+      walked = logged.walk s q (nodes_of old.read) (explored.exploring.agrees is_known rho explored.radius)
 
       beyond_root : IsIn (pending_root live.root) state.queue → ⊥
       beyond_root waits = let b : rho < 0 = explored.beyond (pending_root live.root) waits in omega arith
@@ -356,8 +356,8 @@ module _ (s : Space) (axioms : IsSpace s) (old : Shelf) (live : Live) (q : List 
 
 -- the walk over what is kept
 
-pub relog_begins : (rho : ℕ) (kept : Sheets) (root : ℕ) (rs : List Record) (hits : List Hit) (stack : List Need) → rs ≡ [] → hits ≡ [] → stack ≡ root_need root ∷ [] → IsRelogging rho kept root rs hits (reverse stack)
-relog_begins rho kept root rs hits stack none no_hits one = rw (none, no_hits, one) (record { walk = λ s q nodes seen. (refl, refl); few_marks = tt; few_hits = omega arith })
+pub rebuilding_begins : (rho : ℕ) (kept : Sheets) (root : ℕ) (rs : List Record) (hits : List Hit) (stack : List Need) → rs ≡ [] → hits ≡ [] → stack ≡ root_need root ∷ [] → IsRebuilding rho kept root rs hits (reverse stack)
+rebuilding_begins rho kept root rs hits stack none no_hits one = rw (none, no_hits, one) (record { walk = λ s q nodes seen. (refl, refl); few_marks = tt; few_hits = omega arith })
 
 -- what was seen of a node is taken in as the node would be
 takes_node : (s : Space) (q : List ℕ) (rho : ℕ) (n : Need) (node : Node) (seen : Seen) (old new : Traversal) → IsSeenOf s q rho n.above node seen → TakesSeen rho n seen old new → TakesNode (search_at s q rho) n node old new
@@ -386,10 +386,10 @@ few_named : (rho : ℕ) (seen : Seen) → length (hits_seen rho seen) ≤ length
 few_named rho (Objects xs) = let few = few_near rho xs.items in let same = length-map (seen_near rho xs.items) hit_seen in omega arith
 few_named rho (Subtrees xs) = omega arith
 
-pub relog_steps : (rho : ℕ) (kept : Sheets) (root : ℕ) (one other : Traversal) (n : Need) (rest : List Need) (seen : Seen) → reverse one.stack.items ≡ n ∷ rest → KeepsFew kept → kept n.page n.above ≡ Some seen →
+pub rebuilding_steps : (rho : ℕ) (kept : Sheets) (root : ℕ) (one other : Traversal) (n : Need) (rest : List Need) (seen : Seen) → reverse one.stack.items ≡ n ∷ rest → KeepsFew kept → kept n.page n.above ≡ Some seen →
     (mid : Traversal) → mid.records.items ≡ one.records.items → mid.hits.items ≡ one.hits.items → reverse mid.stack.items ≡ rest → TakesSeen rho n seen mid other →
-    IsRelogging rho kept root one.records.items one.hits.items (reverse one.stack.items) → IsRelogging rho kept root other.records.items other.hits.items (reverse other.stack.items)
-relog_steps rho kept root one other n rest seen top few is mid records hits left takes before =
+    IsRebuilding rho kept root one.records.items one.hits.items (reverse one.stack.items) → IsRebuilding rho kept root other.records.items other.hits.items (reverse other.stack.items)
+rebuilding_steps rho kept root one other n rest seen top few is mid records hits left takes before =
     let rs : other.records.items ≡ one.records.items ++ record_seen rho n.page seen ∷ [] = takes.records ∙ ap (λ (l : List Record). l ++ record_seen rho n.page seen ∷ []) records in
     let hs : other.hits.items ≡ one.hits.items ++ hits_seen rho seen = takes.hits ∙ ap (λ (l : List Hit). l ++ hits_seen rho seen) hits in
     let entries = few n.page n.above seen is in

@@ -61,7 +61,7 @@ has_final k count = elim (final_below k count bound) [
   | inr none ↦ (bound, (record { bounded = (omega arith); fewer = none; enough = λ less. absurd (omega arith) }))
 ]
 
-module _ (w : ℕ → ℕ) (f : Search) (axioms : IsSpace f.space) (q_fits : IsTrue (f.space.fits f.point)) (nodes : Nodes) where
+module _ (w : ℕ → ℕ) (f : Search) (axioms : IsSpace f.space) (q_fits : IsTrue (f.space.is_point f.point)) (nodes : Nodes) where
   abbrev pub opens_all : List Spot → ℕ
   opens_all ps = total (λ p. opens w f nodes p.height p.page) ps
 

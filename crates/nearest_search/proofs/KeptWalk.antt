@@ -20,7 +20,7 @@ use Rattle.log_model.specs.Walk.{Search, ReachesBy, WalksBy, AreLeast, away, is_
 use Rattle.log_model.proofs.Published.{reached_inside, walks_whole}
 use Rattle.nearest_search.specs.Machine.{reaches}
 use Rattle.nearest_search.specs.Keeping.{Sheets, IsKept}
-use Rattle.nearest_search.specs.Relog.{IsStopped}
+use Rattle.nearest_search.specs.RebuiltLog.{IsStopped}
 
 -- what the least marks leave reaches
 pub near_reach : (f : Search) (above : Option ℕ) (es : List InnerEntry) →
@@ -66,9 +66,9 @@ module _ (f : Search) (nodes : Nodes) (kept : Sheets)
       (subst (λ (ms : List Mark). AreKept (needs_of f walk.0 ms)) (sym walk.3) (needs_kept n.page n.above walk.0 all.0 walk.1)) all.1) walk.4.1
 
   -- on a sound tree the walk over what is kept is whole
-  pub relog_whole : (live : Live) → IsSoundTree f.space nodes live → IsKept kept live.root None → (rs : List Record) (hits : List Hit) (left : List Need) →
+  pub rebuilding_whole : (live : Live) → IsSoundTree f.space nodes live → IsKept kept live.root None → (rs : List Record) (hits : List Hit) (left : List Need) →
       ReachesBy AreLeast f nodes (root_need live.root ∷ []) rs hits left → IsStopped kept live rs left → WalksBy AreLeast f nodes (root_need live.root ∷ []) rs hits
-  relog_whole live sound root rs hits left walk stopped = ends left walk stopped
+  rebuilding_whole live sound root rs hits left walk stopped = ends left walk stopped
     where
       unkept : (n : Need) → IsKept kept n.page n.above → kept n.page n.above ≡ None → ⊥
       unkept n k none = let some = k.1 in cc

@@ -29,7 +29,7 @@ pub level_is : (s : Space) (nodes : Nodes) (h least : ℕ) (above : Option (List
 level_is s nodes zero least above page sound = ap level_of sound.1
 level_is s nodes (suc h) least above page sound = ap level_of sound.1
 
-module _ (f : Search) (axioms : IsSpace f.space) (q_fits : IsTrue (f.space.fits f.point)) where
+module _ (f : Search) (axioms : IsSpace f.space) (q_fits : IsTrue (f.space.is_point f.point)) where
   -- on a sound tree the least marks are Near where the sphere reaches into the search's
   pub near_reaches : (nodes : Nodes) (h : ℕ) (above : Option (List ℕ)) → FitsAbove f.space above → (es : List InnerEntry) →
       AllByRecursion (SoundSubtree f.space nodes h above) es →
@@ -71,13 +71,13 @@ module _ (f : Search) (axioms : IsSpace f.space) (q_fits : IsTrue (f.space.fits 
       (r : ℕ) → r ≤ f.rho → count_near f r (objects_at nodes h e.child) ≡ 0
   out_of_reach nodes h above e sound out r low = none (objects_at nodes h e.child) (held f.space nodes h above e sound)
     where
-      one : (o : LeafEntry) → IsTrue (f.space.fits o.point) → f.space.dist o.point e.point ≤ e.radius → ◌≡◌ {A = ℕ} (if nat_le (away f o.point) r then 1 else 0) 0
+      one : (o : LeafEntry) → IsTrue (f.space.is_point o.point) → f.space.dist o.point e.point ≤ e.radius → ◌≡◌ {A = ℕ} (if nat_le (away f o.point) r then 1 else 0) 0
       one o o_fits near =
           let t = axioms.triangle e.point o.point f.point sound.0.point_fits o_fits q_fits in
           let y = axioms.symmetric e.point o.point sound.0.point_fits o_fits in
           grind (arith, nat_tests)
 
-      none : (os : List LeafEntry) → AllByRecursion (λ o. IsTrue (f.space.fits o.point) × (f.space.dist o.point e.point ≤ e.radius)) os → count_near f r os ≡ 0
+      none : (os : List LeafEntry) → AllByRecursion (λ o. IsTrue (f.space.is_point o.point) × (f.space.dist o.point e.point ≤ e.radius)) os → count_near f r os ≡ 0
       none [] all = refl
       none (o ∷ os) all = let i = one o all.0.0 all.0.1 in let ih = none os all.1 in omega arith
 
@@ -101,7 +101,7 @@ module _ (f : Search) (axioms : IsSpace f.space) (q_fits : IsTrue (f.space.fits 
           total (λ e. count_near f r (objects_at nodes h e.child)) es ≡ total (count_below f nodes r) (map (pending_of f) (filter (reaches f) es)) →
           count_near f r (objects_at nodes h e.child) + total (λ e. count_near f r (objects_at nodes h e.child)) es
           ≡ total (count_below f nodes r) (map (pending_of f) (cond b (e ∷ filter (reaches f) es) (filter (reaches f) es)))
-      cases true i ih = rw (level_is f.space nodes h (least_for f.space.words) (Some e.point) e.child sound.0.1) (ap (λ n. count_near f r (objects_at nodes h e.child) + n) ih)
+      cases true i ih = rw (level_is f.space nodes h (least_for f.space.dimension) (Some e.point) e.child sound.0.1) (ap (λ n. count_near f r (objects_at nodes h e.child) + n) ih)
       cases false i ih = let z = out_of_reach nodes h above e sound.0 i r low in omega arith
 
 -- the pages that the final walk opens below the entries, where the search at the time reached at least as far
@@ -122,6 +122,6 @@ opens_covered w f g same nodes h above (e ∷ es) sound measure low = cases (rea
         total (λ e. if reaches g e then opens w g nodes h e.child else 0) es ≡ total (opens_of w g nodes) (map (pending_of f) (filter (reaches f) es)) →
         (if c then opens w g nodes h e.child else 0) + total (λ e. if reaches g e then opens w g nodes h e.child else 0) es
         ≡ total (opens_of w g nodes) (map (pending_of f) (cond b (e ∷ filter (reaches f) es) (filter (reaches f) es)))
-    cases true c i j ih = rw (lower c j, level_is f.space nodes h (least_for f.space.words) (Some e.point) e.child sound.0.1) (ap (λ n. (if c then opens w g nodes h e.child else 0) + n) ih)
+    cases true c i j ih = rw (lower c j, level_is f.space nodes h (least_for f.space.dimension) (Some e.point) e.child sound.0.1) (ap (λ n. (if c then opens w g nodes h e.child else 0) + n) ih)
     cases false true i j ih = absurd (let w = wider j in cc)
     cases false false i j ih = omega arith

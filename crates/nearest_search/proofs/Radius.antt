@@ -107,7 +107,7 @@ pub length-dists : (xs : List Hit) → length (dists xs) ≡ length xs
 length-dists [] = refl
 length-dists (x ∷ xs) = ap suc (length-dists xs)
 
-module _ (s : Space) (axioms : IsSpace s) (q : List ℕ) (q_fits : IsTrue (s.fits q)) (es : List LeafEntry) (count k rho : ℕ) (ids : AreIds es count) (some : 1 ≤ k)
+module _ (s : Space) (axioms : IsSpace s) (q : List ℕ) (q_fits : IsTrue (s.is_point q)) (es : List LeafEntry) (count k rho : ℕ) (ids : AreIds es count) (some : 1 ≤ k)
     (final : IsFinal k (λ r. count_near (search_at s q 0) r es) rho) where
   abbrev pub found : List Hit
   found = in_order hit_before (answers_in (search_at s q rho) es)

@@ -36,7 +36,7 @@ pub far_above_at : (s : Space) (q : List ℕ) (r t : ℕ) (u : Option (List ℕ)
 far_above_at s q r t None = refl
 far_above_at s q r t (Some p) = refl
 
-module _ (s : Space) (axioms : IsSpace s) (q : List ℕ) (q_fits : IsTrue (s.fits q)) (nodes : Nodes) where
+module _ (s : Space) (axioms : IsSpace s) (q : List ℕ) (q_fits : IsTrue (s.is_point q)) (nodes : Nodes) where
   -- the search at a radius
   abbrev pub at : ℕ → Search
   at r = search_at s q r
@@ -72,7 +72,7 @@ module _ (s : Space) (axioms : IsSpace s) (q : List ℕ) (q_fits : IsTrue (s.fit
       let there = in-filter (reaches (at rho)) sound.0 from.0 from.1 in
       subst (λ (y : Pending). IsPending (at 0) nodes y) (sym from.2) (one from.0 (all_in (SoundSubtree s nodes h above) sound.0 from.0 sound.3 there.0))
     where
-      low : (e : InnerEntry) → SoundSubtree s nodes h above e → (o : LeafEntry) → IsTrue (s.fits o.point) → s.dist o.point e.point ≤ e.radius → away (at rho) e.point - e.radius ≤ away (at 0) o.point
+      low : (e : InnerEntry) → SoundSubtree s nodes h above e → (o : LeafEntry) → IsTrue (s.is_point o.point) → s.dist o.point e.point ≤ e.radius → away (at rho) e.point - e.radius ≤ away (at 0) o.point
       low e sub o o_fits near =
           let t = axioms.triangle e.point o.point q sub.0.point_fits o_fits q_fits in
           let y = axioms.symmetric e.point o.point sub.0.point_fits o_fits in omega arith
@@ -80,12 +80,12 @@ module _ (s : Space) (axioms : IsSpace s) (q : List ℕ) (q_fits : IsTrue (s.fit
       one : (e : InnerEntry) → SoundSubtree s nodes h above e → IsPending (at 0) nodes (pending_of (at rho) e)
       one e sub = record {
         height = h;
-        least = least_for s.words;
+        least = least_for s.dimension;
         above = Some e.point;
         sound = sub.1;
-        fits = sub.0.point_fits;
+        is_point = sub.0.point_fits;
         above_is = refl;
-        low_is = all_weaker (λ o. IsTrue (s.fits o.point) × (s.dist o.point e.point ≤ e.radius)) (λ o. away (at rho) e.point - e.radius ≤ away (at 0) o.point)
+        low_is = all_weaker (λ o. IsTrue (s.is_point o.point) × (s.dist o.point e.point ≤ e.radius)) (λ o. away (at rho) e.point - e.radius ≤ away (at 0) o.point)
             (objects_at nodes h e.child) (λ o w. low e sub o w.0 w.1) (held s nodes h above e sub);
       }
 
@@ -184,16 +184,16 @@ module _ (s : Space) (axioms : IsSpace s) (q : List ℕ) (q_fits : IsTrue (s.fit
 
       pub covered_here : (r : ℕ) → r ≤ rho → count_below (at 0) nodes r x ≡ within r (dists_of (at rho) x.above node) + total (count_below (at 0) nodes r) (pendings_of (at rho) x.above node)
       covered_here r near =
-          rw (waited.above_is, below_is x waited) (covered rho waited.height waited.least waited.above x.page node waited.sound waited.fits is r near)
+          rw (waited.above_is, below_is x waited) (covered rho waited.height waited.least waited.above x.page node waited.sound waited.is_point is r near)
 
       pub queues_here : (e : InnerEntry) → IsIn e (inner_entries (Some node)) → IsTrue (reaches (at rho) e) → IsIn (pending_of (at rho) e) (pendings_of (at rho) x.above node)
       queues_here e i far =
           subst (λ (o : Option ℕ). IsIn (pending_of (at rho) e) (pendings_of (at rho) o node)) (sym waited.above_is)
-          (queues rho waited.height waited.least waited.above x.page node waited.sound waited.fits is e i far)
+          (queues rho waited.height waited.least waited.above x.page node waited.sound waited.is_point is e i far)
 
       pub sound_here : (y : Pending) → IsIn y (pendings_of (at rho) x.above node) → IsPending (at 0) nodes y
       sound_here y i =
-          queues_sound rho waited.height waited.least waited.above x.page node waited.sound waited.fits is y
+          queues_sound rho waited.height waited.least waited.above x.page node waited.sound waited.is_point is y
           (subst (λ (o : Option ℕ). IsIn y (pendings_of (at rho) o node)) waited.above_is i)
 
       pub opens_here : (w : ℕ → ℕ) (final : ℕ) → final ≤ rho → x.low ≤ final → opens_of w (at final) nodes x ≡ w x.page + total (opens_of w (at final) nodes) (pendings_of (at rho) x.above node)
@@ -201,7 +201,7 @@ module _ (s : Space) (axioms : IsSpace s) (q : List ℕ) (q_fits : IsTrue (s.fit
           let yes_low : nat_le x.low final ≡ true = grind (arith, nat_tests) in
           let deep : opens_of w (at final) nodes x ≡ opens w (at final) nodes waited.height x.page =
           rw (yes_low, level_is s nodes waited.height waited.least waited.above x.page waited.sound) refl in
-          deep ∙ opens_more w rho final high waited.height waited.least waited.above x.page node waited.sound waited.fits is
+          deep ∙ opens_more w rho final high waited.height waited.least waited.above x.page node waited.sound waited.is_point is
           ∙ ap (λ (o : Option ℕ). w x.page + total (opens_of w (at final) nodes) (pendings_of (at rho) o node)) (sym waited.above_is)
 
       -- the state after the page was opened

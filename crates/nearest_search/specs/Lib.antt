@@ -5,6 +5,6 @@ pub mod Seeing
 pub mod Keeping
 pub mod Machine
 pub mod Opened
-pub mod Relog
+pub mod RebuiltLog
 pub mod Walks
 pub mod Searched

@@ -82,7 +82,7 @@ far_above f (Some p) = Some (away f p)
 
 abbrev pub FitsUp : Space → Option (List ℕ) → Type 0
 FitsUp s None = Unit {0}
-FitsUp s (Some p) = IsTrue (s.fits p)
+FitsUp s (Some p) = IsTrue (s.is_point p)
 
 -- the subtree is sound, and none of its objects is nearer than it says
 pub record IsPending (f : Search) (nodes : Nodes) (x : Pending) : Type 0 where
@@ -90,7 +90,7 @@ pub record IsPending (f : Search) (nodes : Nodes) (x : Pending) : Type 0 where
   pub least : ℕ
   pub above : Option (List ℕ)
   pub sound : IsSoundAt f.space nodes height least above x.page
-  pub fits : FitsUp f.space above
+  pub is_point : FitsUp f.space above
   pub above_is : x.above ≡ far_above f above
   pub low_is : AllByRecursion (λ o. x.low ≤ away f o.point) (objects_at nodes height x.page)
 

@@ -45,13 +45,13 @@ pub record IsExploring (s : Space) (old now : Shelf) (live : Live) (q : List ℕ
   pub few : opened ≤ live.pages
   pub keeps_few : KeepsFew state.kept
   pub begun : ((1 ≤ opened) × IsKept state.kept live.root None) ⊎ IsIn (pending_root live.root) state.queue
-  pub agrees : IsTrue old.tells → (rho : ℕ) → IsRadius k state.best rho → AreSeenOf s q rho (nodes_of old.read) state.kept
-  pub reached : IsTrue old.tells → (x : Pending) → IsIn x state.queue → IsReached (nodes_of old.read) live.root x.page
-  pub walk : IsTrue old.tells → HasOpened (nodes_of old.read) (live.root ∷ []) opened (map (λ x. x.page) state.queue)
+  pub agrees : IsTrue old.is_known → (rho : ℕ) → IsRadius k state.best rho → AreSeenOf s q rho (nodes_of old.read) state.kept
+  pub reached : IsTrue old.is_known → (x : Pending) → IsIn x state.queue → IsReached (nodes_of old.read) live.root x.page
+  pub walk : IsTrue old.is_known → HasOpened (nodes_of old.read) (live.root ∷ []) opened (map (λ x. x.page) state.queue)
   pub pages : List ℕ
   pub long : length pages ≡ opened
-  pub spent : IsTrue old.tells → state.used ≤ used + total (entries_of (nodes_of old.read)) pages
-  pub holds : IsTrue old.tells → IsSoundTree s (nodes_of old.read) live → Holds s (nodes_of old.read) q k live.root state.kept state.queue state.best pages
+  pub spent : IsTrue old.is_known → state.used ≤ used + total (entries_of (nodes_of old.read)) pages
+  pub holds : IsTrue old.is_known → IsSoundTree s (nodes_of old.read) live → Holds s (nodes_of old.read) q k live.root state.kept state.queue state.best pages
 
 -- nothing within the radius is queued
 pub record IsExplored (s : Space) (old now : Shelf) (live : Live) (q : List ℕ) (k : ℕ) (state : State) (rho opened used : ℕ) : Type 0 where
@@ -73,12 +73,12 @@ abbrev pub HasNearestCause : Live → Shelf → Shelf → PageFault → Type 0
 HasNearestCause live old new Disk = Rose old.faults new.faults
 HasNearestCause live old new Memory = Unit {0}
 HasNearestCause live old new (Bad page fault) =
-    (fault ≢ NodeMemory) × IsWithin old.pages page × (IsTrue old.tells → (old.read page ≡ Err (Bad page fault)) × IsReached (nodes_of old.read) live.root page)
+    (fault ≢ NodeMemory) × IsWithin old.pages page × (IsTrue old.is_known → (old.read page ≡ Err (Bad page fault)) × IsReached (nodes_of old.read) live.root page)
 HasNearestCause live old new (Outside page) =
-    (is_within old.pages page ≡ false) × (IsTrue old.tells → (old.read page ≡ Err (Outside page)) × IsReached (nodes_of old.read) live.root page)
+    (is_within old.pages page ≡ false) × (IsTrue old.is_known → (old.read page ≡ Err (Outside page)) × IsReached (nodes_of old.read) live.root page)
 HasNearestCause live old new (Repeats page) =
     (new.asked ≡ count_up old.asked live.pages)
-    × (IsTrue old.tells → IsReached (nodes_of old.read) live.root page × OpensBefore (nodes_of old.read) (live.root ∷ []) live.pages page)
+    × (IsTrue old.is_known → IsReached (nodes_of old.read) live.root page × OpensBefore (nodes_of old.read) (live.root ∷ []) live.pages page)
 HasNearestCause live old new (Level page) = ⊥
 
 -- the number of marks in a log, which is the number of entries in the nodes that its walk opens

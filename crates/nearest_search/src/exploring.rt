@@ -39,7 +39,7 @@ pub fn explore<P: Pages, R: Ruler>(
     live: &Live,
     machine: &mut Machine,
 ) -> Result<Explored, PageFault>
-    requires point { IsTrue ((R.M.space (R.metric ruler.old)).fits q.now) }
+    requires point { IsTrue ((R.M.space (R.metric ruler.old)).is_point q.now) }
     requires queue { machine.old.frontier ≡ pending_root live.now.root ∷ [] }
     requires best { heap_items machine.old.best.heap ≡ [] }
     requires kept { machine.old.kept ≡ [] }
@@ -60,7 +60,7 @@ pub fn explore<P: Pages, R: Ruler>(
     ensures asked { CountsUpTo (P.shelf pages.old).asked (P.shelf pages.new).asked live.now.pages }
     ensures reads { (P.shelf pages.new).reads ≤ (P.shelf pages.old).reads + live.now.pages }
     ensures measured { IsFrugal live.now.pages (P.shelf pages.old).asked (R.used ruler.old) (P.shelf pages.new).asked (R.used ruler.new) }
-    ensures sound { IfErr result (λ fault. IsTrue (P.shelf pages.old).tells →
+    ensures sound { IfErr result (λ fault. IsTrue (P.shelf pages.old).is_known →
         IsSoundTree (R.M.space (R.metric ruler.old)) (nodes_of (P.shelf pages.old).read) live.now → IsPassing fault) }
 {
     let mut opened = 0u32;

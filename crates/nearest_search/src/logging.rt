@@ -3,7 +3,7 @@
 ghost use Rattle.std.specs.Prelude.{◌≡◌, ◌++◌, [], ◌∷◌, map, reverse, IfOk, OnOk};
 ghost use Rattle.nearest_search.specs.Seeing.{mark_at, seen_near, hit_seen, need_seen};
 ghost use Rattle.nearest_search.specs.Keeping.{kept_seen, KeepsFew};
-ghost use Rattle.nearest_search.specs.Relog.{TakesSeen, IsRelogged};
+ghost use Rattle.nearest_search.specs.RebuiltLog.{TakesSeen, IsRebuiltLog};
 
 use crate::kept::{Kept, Turn};
 use crate::seen::{Seen, Sight};
@@ -99,9 +99,9 @@ fn take_seen(
 
 /// Walks over what is kept of the opened pages, with the least marks at the final radius `rho`. No page is read and no distance is
 /// computed.
-pub fn relog(alloc: Global, rho: u64, live: &Live, kept: &Kept) -> Result<Traversal, Memory>
+pub fn rebuild_log(alloc: Global, rho: u64, live: &Live, kept: &Kept) -> Result<Traversal, Memory>
     requires { KeepsFew (kept_seen kept.now) }
-    ensures { IfOk result (λ walk. IsRelogged rho (kept_seen kept.now) live.now walk.records.items walk.hits.items) }
+    ensures { IfOk result (λ walk. IsRebuiltLog rho (kept_seen kept.now) live.now walk.records.items walk.hits.items) }
 {
     let mut walk = Traversal::begin(alloc, live.root)?;
     let mut opened = 0u32;

@@ -8,7 +8,7 @@ ghost use Rattle.log_model.specs.Sound.{IsLogOf};
 ghost use Rattle.nearest_search.specs.Searched.{HasNearestCause, IsFront, IsFrugal, IsNearest, marks_in};
 
 use crate::exploring::explore;
-use crate::logging::relog;
+use crate::logging::rebuild_log;
 use crate::machine::Machine;
 use log_model::Found;
 use metric_laws::{Point, Ruler};
@@ -35,7 +35,7 @@ pub fn nearest<P: Pages, R: Ruler>(
     q: &[u32],
     k: u64,
 ) -> Result<Found, PageFault>
-    requires point { IsTrue ((R.M.space (R.metric ruler.old)).fits q.now) }
+    requires point { IsTrue ((R.M.space (R.metric ruler.old)).is_point q.now) }
     requires few_pages { live.now.pages ≤ 2 ^ 24 }
     requires some { 1 ≤ k }
     ensures metric { R.metric ruler.new ≡ R.metric ruler.old }
@@ -43,11 +43,11 @@ pub fn nearest<P: Pages, R: Ruler>(
     ensures no_fault { OnOk result ((P.shelf pages.new).faults ≡ (P.shelf pages.old).faults) }
     ensures keeps { P.keeps pages.old pages.new }
     ensures log { IfOk result (IsLogOf live.now (Nearest q.now k)) }
-    ensures nearest { IfOk result (λ found. IsTrue (P.shelf pages.old).tells →
+    ensures nearest { IfOk result (λ found. IsTrue (P.shelf pages.old).is_known →
         IsSoundTree (R.M.space (R.metric ruler.old)) (nodes_of (P.shelf pages.old).read) live.now →
         IsNearest (R.M.space (R.metric ruler.old)) (nodes_of (P.shelf pages.old).read) live.now q.now k (P.shelf pages.old)
         (P.shelf pages.new) found) }
-    ensures front { IfOk result (λ found. IsTrue (P.shelf pages.old).tells →
+    ensures front { IfOk result (λ found. IsTrue (P.shelf pages.old).is_known →
         IsFront (R.M.space (R.metric ruler.old)) (nodes_of (P.shelf pages.old).read) live.now q.now k found) }
     ensures cause { IfErr result (HasNearestCause live.now (P.shelf pages.old) (P.shelf pages.new)) }
     // Whatever the result, at most as many pages are asked for, and read, as the file has.
@@ -56,16 +56,16 @@ pub fn nearest<P: Pages, R: Ruler>(
     // At most one distance was computed for each entry of the pages that were asked for.
     ensures measured { IsFrugal live.now.pages (P.shelf pages.old).asked (R.used ruler.old) (P.shelf pages.new).asked (R.used ruler.new) }
     // On a sound tree at most one distance was computed for each entry that the log marks.
-    ensures few_measured { IfOk result (λ found. IsTrue (P.shelf pages.old).tells →
+    ensures few_measured { IfOk result (λ found. IsTrue (P.shelf pages.old).is_known →
         IsSoundTree (R.M.space (R.metric ruler.old)) (nodes_of (P.shelf pages.old).read) live.now →
         R.used ruler.new ≤ R.used ruler.old + marks_in found.log.records) }
-    ensures sound { IfErr result (λ fault. IsTrue (P.shelf pages.old).tells →
+    ensures sound { IfErr result (λ fault. IsTrue (P.shelf pages.old).is_known →
         IsSoundTree (R.M.space (R.metric ruler.old)) (nodes_of (P.shelf pages.old).read) live.now → IsPassing fault) }
 {
     let point = Point::new(alloc, q)?;
     let mut machine = Machine::begin(alloc, k, live.root)?;
     let explored = explore(alloc, pages, ruler, q, live, &mut machine)?;
-    let walk = relog(alloc, explored.rho, live, &machine.kept)?;
+    let walk = rebuild_log(alloc, explored.rho, live, &machine.kept)?;
     let query = Query::Nearest { q: point, k };
     Ok(Found::of(alloc, live, query, walk)?)
 }

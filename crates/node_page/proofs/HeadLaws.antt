@@ -66,7 +66,7 @@ spells_by_none page none =
       between = zero_by_test 14 2 page all.5;
       limit = refl;
       behind = zero_by_test 20 4076 page all.6;
-      lawful = record { version = all.1; space = all.2; policy = all.3; limit = all.4 };
+      valid = record { version = all.1; space = all.2; policy = all.3; limit = all.4 };
     }
 
 -- a page that spells a head has no fault
@@ -76,9 +76,9 @@ no_head_fault page head spells =
     pass_all (number_at 0 8 page == magic) (is_version (number_at 8 2 page)) (is_space (slice_index page 10) (slice_index page 11))
     (is_policy (slice_index page 12) (slice_index page 13)) (is_limit (number_at 16 4 page)) (are_zero 14 2 page) (are_zero 20 4076 page)
     (is_same (number_at 0 8 page) magic spells.magic)
-    (rw (spells.version) spells.lawful.version)
-    (rw (spells.kind, spells.dim) spells.lawful.space)
-    (rw (spells.promote, spells.split) spells.lawful.policy)
-    (rw (spells.limit) spells.lawful.limit)
+    (rw (spells.version) spells.valid.version)
+    (rw (spells.kind, spells.dim) spells.valid.space)
+    (rw (spells.promote, spells.split) spells.valid.policy)
+    (rw (spells.limit) spells.valid.limit)
     (test_by_zero 14 2 page spells.between)
     (test_by_zero 20 4076 page spells.behind)

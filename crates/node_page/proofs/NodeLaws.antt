@@ -14,7 +14,7 @@ use Rattle.node_page.specs.Bytes.{number_at, are_zero}
 use Rattle.node_page.specs.declared.node.Version.{Version}
 use Rattle.node_page.specs.declared.node.NodeFault.{NodeFault}
 use Rattle.node_page.specs.declared.node.NodeFault.TheVariants.{Kind, Count, Distance, Tail, Memory}
-use Rattle.node_page.specs.Nodes.{firsts, all_of, parent_place, leaf_in, inner_at, place_of, place_in, count_of, HasCount, SpellsIn, IsLawfulNode, near_at, is_count, are_near, is_rest_zero, fault_in, node_in}
+use Rattle.node_page.specs.Nodes.{firsts, all_of, parent_place, leaf_in, inner_at, place_of, place_in, count_of, HasCount, SpellsIn, IsValidNode, near_at, is_count, are_near, is_rest_zero, fault_in, node_in}
 use Rattle.node_page.proofs.Rest.{zero_by_test, test_by_zero}
 use Rattle.node_page.proofs.SlotLaws.{both}
 use Rattle.node_page.proofs.Listing.{length-firsts, count_few, within_page}
@@ -31,17 +31,17 @@ one_all P (y ∷ ys) x all = (let rest = one_all P ys x all.1 in ((all.0, rest.0
 
 all_by_test : {E : Type 0} (P : E → Type 0) (f : ℕ → E) (t : ℕ → Bool) → ((i : ℕ) → t i ≡ true → P (f i)) → (n : ℕ) → all_of t n ≡ true → AllByRecursion P (firsts f n)
 unfolding firsts all_of
-all_by_test P f t tells zero is = tt
-all_by_test P f t tells (suc n) is =
+all_by_test P f t is_known zero is = tt
+all_by_test P f t is_known (suc n) is =
     let each = both (all_of t n) (t n) is in
-    all_one P (firsts f n) (f n) (all_by_test P f t tells n each.0) (tells n each.1)
+    all_one P (firsts f n) (f n) (all_by_test P f t is_known n each.0) (is_known n each.1)
 
 test_by_all : {E : Type 0} (P : E → Type 0) (f : ℕ → E) (t : ℕ → Bool) → ((i : ℕ) → P (f i) → t i ≡ true) → (n : ℕ) → AllByRecursion P (firsts f n) → all_of t n ≡ true
 unfolding firsts all_of
-test_by_all P f t tells zero all = refl
-test_by_all P f t tells (suc n) all =
+test_by_all P f t is_known zero all = refl
+test_by_all P f t is_known (suc n) all =
     let each = one_all P (firsts f n) (f n) all in
-    rw (test_by_all P f t tells n each.0, tells n each.1) refl
+    rw (test_by_all P f t is_known n each.0, is_known n each.1) refl
 
 le_test : (m n : ℕ) → m ≤ n → nat_le m n ≡ true
 le_test m n le = grind (arith, nat_tests)
@@ -258,7 +258,7 @@ few_by_none version dim page none =
     let tests = all_pass (nat_le (slice_index page 0) 14) (is_count dim (slice_index page 0 == 0) (count_of page)) (are_near version dim (slice_index page 0 == 0) page (count_of page)) (is_rest_zero version dim (slice_index page 0 == 0) page (count_of page)) none in
     count_few dim (slice_index page 0 == 0) (count_of page) tests.1
 
--- ---- a spelled node is lawful
+-- ---- a spelled node is valid
 
 all_firsts : {E : Type 0} (P : E → Type 0) (f : ℕ → E) → ((i : ℕ) → P (f i)) → (n : ℕ) → AllByRecursion P (firsts f n)
 unfolding firsts
@@ -278,15 +278,15 @@ unfolding inner_at
 inner_long dim page at = length-firsts (λ j. number_at (at + 20 + 4 * j) 4 page) dim
 
 -- a node that a page spells is one that a page can hold
-pub lawful_by_spells : (version : Version) (dim : ℕ) (page : List ℕ) (node : Node) → SpellsIn version dim page node → IsLawfulNode dim node
-lawful_by_spells version dim page (Leaf es) (level, has, are, near) = (
+pub valid_by_spells : (version : Version) (dim : ℕ) (page : List ℕ) (node : Node) → SpellsIn version dim page node → IsValidNode dim node
+valid_by_spells version dim page (Leaf es) (level, has, are, near) = (
   has.at_most,
   both_all (λ (e : LeafEntry). length e.point ≡ dim) (λ (e : LeafEntry). e.parent ≤ bound) (λ (e : LeafEntry). (length e.point ≡ dim) × (e.parent ≤ bound)) (λ e long le. (long, le)) es
       (subst (AllByRecursion (λ (e : LeafEntry). length e.point ≡ dim)) (sym are)
       (all_firsts (λ (e : LeafEntry). length e.point ≡ dim) (λ i. leaf_in version dim page (place_in version true dim i)) (λ i. leaf_long version dim page (place_in version true dim i)) (length es)))
       near,
 )
-lawful_by_spells version dim page (Inner level es) (told, low, high, has, some, are, near) = (
+valid_by_spells version dim page (Inner level es) (told, low, high, has, some, are, near) = (
   low,
   high,
   some,

@@ -34,10 +34,10 @@ put_mid_place at count page buf j within below =
 -- a number that was written into a part of a page
 pub number_put : (n at count x : ℕ) (page rest buf : List ℕ) → buf ≡ big_bytes n x ++ rest → at ≤ length page → x < 256 ^ n → number_at at n (put_mid at count page buf) ≡ x
 unfolding number_at
-number_put n at count x page rest buf is within fits =
+number_put n at count x page rest buf is within is_point =
     let long : length buf ≡ n + length rest = ap length is ∙ length-append (big_bytes n x) rest ∙ ap (λ (m : ℕ). m + length rest) (length-bytes_high_first n x) in
     big_shift at 0 n (put_mid at count page buf) buf (λ k below. put_mid_place at count page buf k within (omega (arith, long)) ∙ ap (λ (m : ℕ). slice_index buf m) (let e : k ≡ 0 + k = omega arith in e))
-    ∙ ap (big_from 0 n) is ∙ big_number-reads_back n x rest fits
+    ∙ ap (big_from 0 n) is ∙ big_number-reads_back n x rest is_point
 
 -- a number that is read from a part of a page
 pub number_got : (n at count x : ℕ) (page : List ℕ) → x ≡ big_from 0 n (take count (drop at page)) → n ≤ count → at ≤ length page → x ≡ number_at at n page

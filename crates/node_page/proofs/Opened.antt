@@ -5,7 +5,7 @@ use Rattle.std.proofs.lemmas.Bool.Decides.{nat_tests}
 use Rattle.tree_shape.specs.declared.live.Live.{Live}
 use Rattle.node_page.specs.Heads.{head_of, head_fault}
 use Rattle.node_page.specs.Slots.{HasSlotRest, slot_of}
-use Rattle.node_page.specs.Opening.{page_of, slot_page, is_open, generation_of, slot_of_live, IsLawfulLive, OpensTo, live_side, live_at, live_of, is_clear, is_lawful_live, Unopened, slot_fault, after_head, open_fault}
+use Rattle.node_page.specs.Opening.{page_of, slot_page, is_open, generation_of, slot_of_live, IsValidLive, OpensTo, live_side, live_at, live_of, is_clear, is_valid_live, Unopened, slot_fault, after_head, open_fault}
 use Rattle.node_page.specs.Opening.Unopened.{Short, Unfinished, TwoRoots, BadSlot}
 use Rattle.node_page.specs.declared.head.Head.{Head}
 use Rattle.node_page.specs.declared.head.HeadFault.{HeadFault}
@@ -32,9 +32,9 @@ nine_back a b c d e f g h i ea eb ec ed ee ef eg eh ei = rw (ea, eb, ec, ed, ee,
 le_test : (m n : ℕ) → m ≤ n → nat_le m n ≡ true
 le_test m n le = grind (arith, nat_tests)
 
-pub lawful_by_test : (limit size : ℕ) (live : Live) → is_lawful_live limit size live ≡ true → IsLawfulLive limit size live
-unfolding is_lawful_live
-lawful_by_test limit size live is =
+pub valid_by_test : (limit size : ℕ) (live : Live) → is_valid_live limit size live ≡ true → IsValidLive limit size live
+unfolding is_valid_live
+valid_by_test limit size live is =
     let each = nine (nat_le 1 live.generation) (nat_le live.generation (2 ^ 48 - 1)) (nat_le 3 live.root) (nat_lt live.root live.pages) (nat_le live.height 14)
     (nat_le live.count limit) (nat_le 4 live.pages) (nat_le live.pages (2 ^ 24)) (nat_le (live.pages * 4096) size) is in
     record {
@@ -49,14 +49,14 @@ lawful_by_test limit size live is =
       room = leb-true (live.pages * 4096) size each.8;
     }
 
-pub test_by_lawful : (limit size : ℕ) (live : Live) → IsLawfulLive limit size live → is_lawful_live limit size live ≡ true
-unfolding is_lawful_live
-test_by_lawful limit size live lawful =
+pub test_by_valid : (limit size : ℕ) (live : Live) → IsValidLive limit size live → is_valid_live limit size live ≡ true
+unfolding is_valid_live
+test_by_valid limit size live valid =
     nine_back (nat_le 1 live.generation) (nat_le live.generation (2 ^ 48 - 1)) (nat_le 3 live.root) (nat_lt live.root live.pages) (nat_le live.height 14)
     (nat_le live.count limit) (nat_le 4 live.pages) (nat_le live.pages (2 ^ 24)) (nat_le (live.pages * 4096) size)
-    (le_test 1 live.generation lawful.low_generation) (le_test live.generation (2 ^ 48 - 1) lawful.high_generation) (le_test 3 live.root lawful.low_root)
-    (lt-ltb live.root live.pages lawful.high_root) (le_test live.height 14 lawful.height) (le_test live.count limit lawful.count)
-    (le_test 4 live.pages lawful.low_pages) (le_test live.pages (2 ^ 24) lawful.high_pages) (le_test (live.pages * 4096) size lawful.room)
+    (le_test 1 live.generation valid.low_generation) (le_test live.generation (2 ^ 48 - 1) valid.high_generation) (le_test 3 live.root valid.low_root)
+    (lt-ltb live.root live.pages valid.high_root) (le_test live.height 14 valid.height) (le_test live.count limit valid.count)
+    (le_test 4 live.pages valid.low_pages) (le_test live.pages (2 ^ 24) valid.high_pages) (le_test (live.pages * 4096) size valid.room)
 
 pub rest_by_clear : (page : List ℕ) → is_clear page ≡ true → HasSlotRest page
 unfolding is_clear
@@ -119,16 +119,16 @@ three_back a b c ea eb ec = rw (ea, eb, ec) refl
 
 opens_at : (file : List ℕ) (side : ℕ) → 12288 ≤ length file → head_fault (page_of file 0) ≡ None → side ≤ 1 → is_open file side ≡ true
     → (is_open file (1 - side) ≡ true → generation_of file (1 - side) < generation_of file side) → is_clear (slot_page file side) ≡ true
-    → is_lawful_live (head_of (page_of file 0)).limit (length file) (live_at side (slot_of (slot_page file side))) ≡ true
+    → is_valid_live (head_of (page_of file 0)).limit (length file) (live_at side (slot_of (slot_page file side))) ≡ true
     → OpensTo file (head_of (page_of file 0)) (live_at side (slot_of (slot_page file side)))
 unfolding slot_of is_open generation_of
-opens_at file side long none low gate newest clear lawful = record {
+opens_at file side long none low gate newest clear valid = record {
   long = long;
   spells_head = spells_by_none (page_of file 0) none;
   side = low;
   newest = newest;
   spells_slot = record { gate = gate; generation = refl; root = refl; height = refl; count = refl; pages = refl; rest = rest_by_clear (slot_page file side) clear };
-  lawful = lawful_by_test (head_of (page_of file 0)).limit (length file) (live_at side (slot_of (slot_page file side))) lawful;
+  valid = valid_by_test (head_of (page_of file 0)).limit (length file) (live_at side (slot_of (slot_page file side))) valid;
 }
 
 -- the live slot that a side gives
@@ -137,14 +137,14 @@ live_from file side = live_at side (slot_of (slot_page file side))
 
 opens_side : (file : List ℕ) (side : ℕ) → live_side file ≡ side → 12288 ≤ length file → head_fault (page_of file 0) ≡ None → side ≤ 1 → is_open file side ≡ true
     → (is_open file (1 - side) ≡ true → generation_of file (1 - side) < generation_of file side)
-    → (is_clear (slot_page file (live_side file)) && is_lawful_live (head_of (page_of file 0)).limit (length file) (live_from file (live_side file))) ≡ true
+    → (is_clear (slot_page file (live_side file)) && is_valid_live (head_of (page_of file 0)).limit (length file) (live_from file (live_side file))) ≡ true
     → OpensTo file (head_of (page_of file 0)) (live_from file (live_side file))
 opens_side file side is long none low gate newest sound =
-    let each = both (is_clear (slot_page file (live_side file))) (is_lawful_live (head_of (page_of file 0)).limit (length file) (live_from file (live_side file))) sound in
+    let each = both (is_clear (slot_page file (live_side file))) (is_valid_live (head_of (page_of file 0)).limit (length file) (live_from file (live_side file))) sound in
     subst (λ (s : ℕ). OpensTo file (head_of (page_of file 0)) (live_from file s)) (sym is)
     (opens_at file side long none low gate newest
     (subst (λ (s : ℕ). is_clear (slot_page file s) ≡ true) is each.0)
-    (subst (λ (s : ℕ). is_lawful_live (head_of (page_of file 0)).limit (length file) (live_from file s) ≡ true) is each.1))
+    (subst (λ (s : ℕ). is_valid_live (head_of (page_of file 0)).limit (length file) (live_from file s) ≡ true) is each.1))
 
 side_by : (file : List ℕ) (b : Bool) → first_wins (is_open file 0) (is_open file 1) (generation_of file 0) (generation_of file 1) ≡ b → live_side file ≡ (if b then 0 else 1)
 unfolding live_side
@@ -154,7 +154,7 @@ opens_by_slots : (file : List ℕ) → 12288 ≤ length file → head_fault (pag
 unfolding slot_fault live_of
 opens_by_slots file long none is =
     let tests = three (not (is_open file 0) && not (is_open file 1)) (is_open file 0 && is_open file 1 && (generation_of file 0 == generation_of file 1))
-    (is_clear (slot_page file (live_side file)) && is_lawful_live (head_of (page_of file 0)).limit (length file) (live_from file (live_side file))) is in
+    (is_clear (slot_page file (live_side file)) && is_valid_live (head_of (page_of file 0)).limit (length file) (live_from file (live_side file))) is in
     elim (which (is_open file 0) (is_open file 1) (generation_of file 0) (generation_of file 1) tests.0 tests.1) [
       | inl first ↦ opens_side file 0 (side_by file true first.0) long none (omega arith) first.1 first.2 tests.2
       | inr second ↦ opens_side file 1 (side_by file false second.0) long none (omega arith) second.1 second.2 tests.2
@@ -221,14 +221,14 @@ unfolding slot_fault live_of
 slots_none file head live opens =
     let gates = of_sides file head live opens in
     let clear : is_clear (slot_page file (live_side file)) ≡ true = subst (λ (s : ℕ). is_clear (slot_page file s) ≡ true) (sym gates.2) (clear_by_rest (slot_page file live.side) opens.spells_slot.rest) in
-    let told = test_by_lawful head.limit (length file) live opens.lawful in
+    let told = test_by_valid head.limit (length file) live opens.valid in
     let limit : head.limit ≡ (head_of (page_of file 0)).limit = ap (λ (h : Head). h.limit) (sym (head_is (page_of file 0) head opens.spells_head)) in
-    let lawful : is_lawful_live (head_of (page_of file 0)).limit (length file) (live_from file (live_side file)) ≡ true =
-    subst (λ (t : Live). is_lawful_live (head_of (page_of file 0)).limit (length file) t ≡ true) (sym (live_from_is file head live opens))
-    (subst (λ (n : ℕ). is_lawful_live n (length file) live ≡ true) limit told) in
+    let valid : is_valid_live (head_of (page_of file 0)).limit (length file) (live_from file (live_side file)) ≡ true =
+    subst (λ (t : Live). is_valid_live (head_of (page_of file 0)).limit (length file) t ≡ true) (sym (live_from_is file head live opens))
+    (subst (λ (n : ℕ). is_valid_live n (length file) live ≡ true) limit told) in
     three_back (not (is_open file 0) && not (is_open file 1)) (is_open file 0 && is_open file 1 && (generation_of file 0 == generation_of file 1))
-    (is_clear (slot_page file (live_side file)) && is_lawful_live (head_of (page_of file 0)).limit (length file) (live_from file (live_side file)))
-    gates.0 gates.1 (rw (clear, lawful) refl)
+    (is_clear (slot_page file (live_side file)) && is_valid_live (head_of (page_of file 0)).limit (length file) (live_from file (live_side file)))
+    gates.0 gates.1 (rw (clear, valid) refl)
 
 no_fault : (short : Bool) (fault : Option HeadFault) (rest : Option Unopened) → short ≡ false → fault ≡ None → rest ≡ None → (if short then Some Short else after_head fault rest) ≡ None
 no_fault short fault rest es ef er = rw (es, ef, er) refl

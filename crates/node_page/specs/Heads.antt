@@ -26,7 +26,7 @@ unfoldable pub is_limit : ℕ → Bool
 is_limit limit = nat_le 1 limit && nat_le limit 16777216
 
 -- each field has a value that it may have
-pub record IsLawfulHead (head : Head) : Type 0 where
+pub record IsValidHead (head : Head) : Type 0 where
   pub version : IsTrue (is_version head.version)
   pub space : IsTrue (is_space head.kind head.dim)
   pub policy : IsTrue (is_policy head.promote head.split)
@@ -43,7 +43,7 @@ pub record SpellsHead (page : List ℕ) (head : Head) : Type 0 where
   pub between : AreZero 14 16 page
   pub limit : number_at 16 4 page ≡ head.limit
   pub behind : AreZero 20 4096 page
-  pub lawful : IsLawfulHead head
+  pub valid : IsValidHead head
 
 -- the fields of a page
 unfoldable pub head_of : List ℕ → Head

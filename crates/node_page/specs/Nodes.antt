@@ -131,8 +131,8 @@ node_in version dim page =
     else Inner (slice_index page 0) (firsts (λ i. inner_at dim page (place_of dim i)) (count_of page))
 
 -- a node that a page can hold
-abbrev pub IsLawfulNode : ℕ → Node → Type 0
-IsLawfulNode dim (Leaf es) = (length es ≤ most_for dim) × AllByRecursion (λ e. (length e.point ≡ dim) × (e.parent ≤ bound)) es
-IsLawfulNode dim (Inner level es) =
+abbrev pub IsValidNode : ℕ → Node → Type 0
+IsValidNode dim (Leaf es) = (length es ≤ most_for dim) × AllByRecursion (λ e. (length e.point ≡ dim) × (e.parent ≤ bound)) es
+IsValidNode dim (Inner level es) =
     (1 ≤ level) × (level ≤ 14) × (1 ≤ length es) × (length es ≤ most_for dim)
     × AllByRecursion (λ e. (length e.point ≡ dim) × (e.radius ≤ bound) × (e.parent ≤ bound)) es

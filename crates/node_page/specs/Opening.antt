@@ -30,7 +30,7 @@ abbrev pub slot_of_live : Live → Slot
 slot_of_live live = record { gate = true; generation = live.generation; root = live.root; height = live.height; count = live.count; pages = live.pages }
 
 -- the live slot keeps the bounds of a file of this size whose head has this limit
-pub record IsLawfulLive (limit size : ℕ) (live : Live) : Type 0 where
+pub record IsValidLive (limit size : ℕ) (live : Live) : Type 0 where
   pub low_generation : 1 ≤ live.generation
   pub high_generation : live.generation ≤ 2 ^ 48 - 1
   pub low_root : 3 ≤ live.root
@@ -48,7 +48,7 @@ pub record OpensTo (file : List ℕ) (head : Head) (live : Live) : Type 0 where
   pub side : live.side ≤ 1
   pub newest : IsTrue (is_open file (1 - live.side)) → generation_of file (1 - live.side) < live.generation
   pub spells_slot : SpellsSlot (slot_page file live.side) (slot_of_live live)
-  pub lawful : IsLawfulLive head.limit (length file) live
+  pub valid : IsValidLive head.limit (length file) live
 
 -- the side of the open gate, of the greater generation where both are open
 unfoldable pub live_side : List ℕ → ℕ
@@ -67,8 +67,8 @@ unfoldable pub is_clear : List ℕ → Bool
 is_clear page = are_zero 1 7 page && are_zero 32 4064 page
 
 -- whether a live slot keeps its bounds
-unfoldable pub is_lawful_live : ℕ → ℕ → Live → Bool
-is_lawful_live limit size live =
+unfoldable pub is_valid_live : ℕ → ℕ → Live → Bool
+is_valid_live limit size live =
     nat_le 1 live.generation && nat_le live.generation (2 ^ 48 - 1) && nat_le 3 live.root && nat_lt live.root live.pages && nat_le live.height 14
     && nat_le live.count limit && nat_le 4 live.pages && nat_le live.pages (2 ^ 24) && nat_le (live.pages * 4096) size
 
@@ -90,7 +90,7 @@ unfoldable pub slot_fault : List ℕ → Option Unopened
 slot_fault file =
     if not (is_open file 0) && not (is_open file 1) then Some Unfinished
     else if is_open file 0 && is_open file 1 && (generation_of file 0 == generation_of file 1) then Some TwoRoots
-    else if not (is_clear (slot_page file (live_side file)) && is_lawful_live (head_of (page_of file 0)).limit (length file) (live_of file)) then Some BadSlot
+    else if not (is_clear (slot_page file (live_side file)) && is_valid_live (head_of (page_of file 0)).limit (length file) (live_of file)) then Some BadSlot
     else None
 
 -- a fault of the head, or else one of the slots

@@ -1,5 +1,5 @@
 ghost use Rattle.std.specs.Prelude.{◌≡◌, Ok, IfOk, IfErr, Some};
-ghost use Rattle.node_page.specs.Heads.{SpellsHead, IsLawfulHead, head_fault, head_of, is_version, is_space, is_policy, is_limit};
+ghost use Rattle.node_page.specs.Heads.{SpellsHead, IsValidHead, head_fault, head_of, is_version, is_space, is_policy, is_limit};
 
 use crate::bytes::{are_zero, clear, get_u16, get_u32, get_u64, put_u8, put_u16, put_u32, put_u64};
 use thiserror::Error;
@@ -83,7 +83,7 @@ fn is_limit(limit: u32) -> bool
 
 /// Writes a head into its page.
 pub fn encode_head(head: &Head, page: &mut [u8; 4096])
-    requires lawful { IsLawfulHead head.now }
+    requires valid { IsValidHead head.now }
     requires version { head.now.version ≡ 2 }
     ensures { SpellsHead page.new head.now }
 {
@@ -97,7 +97,7 @@ pub fn encode_head(head: &Head, page: &mut [u8; 4096])
     put_u32(page, 16, head.limit);
 }
 
-// The fields of a head, lawful or not.
+// The fields of a head, valid or not.
 #[tactic(auto, unfolding(crate::specs::Heads::head_of))]
 fn fields_of(page: &[u8; 4096]) -> Head
     ensures { result ≡ head_of page.now }

@@ -12,7 +12,7 @@ mod writing;
 
 pub use bytes::clear;
 pub use head::{Head, HeadFault, decode_head, encode_head};
-pub use live::{is_lawful_live, live_at};
+pub use live::{is_valid_live, live_at};
 pub use node::{NodeFault, Version, decode_node};
 pub use slot::{Gate, Slot, decode_slot, encode_slot, read_gate};
 pub use writing::encode_node;

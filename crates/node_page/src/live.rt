@@ -1,6 +1,6 @@
 // The live tree that a slot tells of.
 ghost use Rattle.std.specs.Prelude.{◌≡◌, ◌↔◌, IsTrue};
-ghost use Rattle.node_page.specs.Opening.{IsLawfulLive, is_lawful_live, live_at};
+ghost use Rattle.node_page.specs.Opening.{IsValidLive, is_valid_live, live_at};
 
 use crate::slot::Slot;
 use tree_shape::{LAST_GENERATION, Live, MOST_PAGES};
@@ -20,9 +20,9 @@ pub fn live_at(side: u8, slot: &Slot) -> Live
 }
 
 // Returns whether `live` keeps the bounds, as the definition tests them.
-#[tactic(auto, unfolding(crate::specs::Opening::is_lawful_live))]
+#[tactic(auto, unfolding(crate::specs::Opening::is_valid_live))]
 fn keeps_bounds(limit: u32, size: u64, live: &Live) -> bool
-    ensures { result ≡ is_lawful_live limit size live.now }
+    ensures { result ≡ is_valid_live limit size live.now }
 {
     live.generation >= 1
         && live.generation <= LAST_GENERATION
@@ -36,10 +36,10 @@ fn keeps_bounds(limit: u32, size: u64, live: &Live) -> bool
 }
 
 /// Returns whether `live` keeps the bounds of a file of `size` bytes whose head has the limit `limit`.
-#[tactic(auto, using(crate::proofs::Opened::lawful_by_test, crate::proofs::Opened::test_by_lawful))]
-pub fn is_lawful_live(limit: u32, size: u64, live: &Live) -> bool
-    ensures value { result ≡ is_lawful_live limit size live.now }
-    ensures bounds { IsTrue result ↔ IsLawfulLive limit size live.now }
+#[tactic(auto, using(crate::proofs::Opened::valid_by_test, crate::proofs::Opened::test_by_valid))]
+pub fn is_valid_live(limit: u32, size: u64, live: &Live) -> bool
+    ensures value { result ≡ is_valid_live limit size live.now }
+    ensures bounds { IsTrue result ↔ IsValidLive limit size live.now }
 {
     keeps_bounds(limit, size, live)
 }

@@ -4,7 +4,7 @@ ghost use Rattle.node_page.specs.declared.node.NodeFault.TheVariants.{Memory};
 ghost use Rattle.tree_shape.specs.Flat.{firsts};
 ghost use Rattle.tree_shape.specs.Entries.{flat_leaves, flat_inners};
 ghost use Rattle.node_page.specs.declared.node.Version.TheVariants.{First};
-ghost use Rattle.node_page.specs.Nodes.{AreNumbers, AreNumbersFrom, SpellsIn, IsLawfulNode, parent_place, leaf_in, leaf_at, inner_at, place_of, place_in, count_of, near_at, are_near, is_count, is_rest_zero, fault_in, node_in};
+ghost use Rattle.node_page.specs.Nodes.{AreNumbers, AreNumbersFrom, SpellsIn, IsValidNode, parent_place, leaf_in, leaf_at, inner_at, place_of, place_in, count_of, near_at, are_near, is_count, is_rest_zero, fault_in, node_in};
 
 use crate::bytes::{are_zero, get_u16, get_u32, get_u64};
 use byteorder::{BigEndian, ByteOrder};
@@ -292,7 +292,7 @@ pub fn decode_node(
     // The page spells the node that is read.
     ensures ok { IfOk result (λ node. SpellsIn version dim page.now node) }
     // The node that is read can be written.
-    ensures lawful { IfOk result (λ node. IsLawfulNode dim node) }
+    ensures valid { IfOk result (λ node. IsValidNode dim node) }
     // The node that is read is the page's, and the page has no fault.
     ensures told { IfOk result (λ node. (fault_in version dim page.now ≡ None) × (node ≡ node_in version dim page.now)) }
     // A node that the page spells is read, unless memory runs out.

@@ -5,7 +5,7 @@ ghost use Rattle.metric_laws.specs.Space.{bound};
 ghost use Rattle.tree_shape.specs.Entries.{leaf_of, inner_of};
 ghost use Rattle.tree_shape.specs.Fill.{most_for};
 ghost use Rattle.node_page.specs.Bytes.{number_at};
-ghost use Rattle.node_page.specs.Nodes.{IsLawfulNode, SpellsNode, firsts, point_at, leaf_at, inner_at, place_of};
+ghost use Rattle.node_page.specs.Nodes.{IsValidNode, SpellsNode, firsts, point_at, leaf_at, inner_at, place_of};
 
 use crate::bytes::{clear, put_u8, put_u16, put_u32, put_u64};
 use crate::node::place_of;
@@ -78,7 +78,7 @@ fn put_inners(page: &mut [u8; 4096], dim: u8, entries: &InnerEntries)
 pub fn encode_node(node: &Node, dim: u8, page: &mut [u8; 4096])
     requires some { 1 ≤ dim }
     requires few { dim ≤ 64 }
-    requires lawful { IsLawfulNode dim node.now }
+    requires valid { IsValidNode dim node.now }
     ensures { SpellsNode dim page.new node.now }
 {
     clear(page);

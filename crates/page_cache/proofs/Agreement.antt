@@ -6,7 +6,7 @@ use Rattle.std.proofs.lemmas.List.Elements.{All-weaker, All-contains, All-contai
 use Rattle.lru.specs.LruCache.{put_entries}
 use Rattle.lru.proofs.CallerLemmas.{Contains-lookup, Contains-put_entries, IsPut}
 use Rattle.tree_shape.specs.declared.entry.Node.{Node}
-use Rattle.node_page.specs.Nodes.{IsLawfulNode}
+use Rattle.node_page.specs.Nodes.{IsValidNode}
 use Rattle.page_store.specs.declared.pages.PageFault.{PageFault}
 use Rattle.page_store.specs.declared.pages.PageFault.TheVariants.{Disk, Bad, Outside, Memory, Repeats, Level}
 use Rattle.page_store.specs.Reading.{IsWithin, is_within}
@@ -61,37 +61,37 @@ unkept_outside kept shelf page agrees out = (elim (kept_node kept page) as (λ o
 ]) refl
 
 -- a page's node stays its node where the pages grow and the page reads as before
-still_node : (old new : Shelf) (page : ℕ) (node : Node) → GrowsTo old new → (IsTrue new.tells → new.read page ≡ old.read page) → IsNodeOf old page node → IsNodeOf new page node
+still_node : (old new : Shelf) (page : ℕ) (node : Node) → GrowsTo old new → (IsTrue new.is_known → new.read page ≡ old.read page) → IsNodeOf old page node → IsNodeOf new page node
 still_node old new page node grows reads is = record {
   within = (is.within.0, let below = is.within.1 in let more = grows.pages in omega arith);
-  lawful = subst (λ (d : ℕ). IsLawfulNode d node) (sym grows.dim) is.lawful;
-  told = λ tells. reads tells ∙ is.told (grows.tells tells);
+  valid = subst (λ (d : ℕ). IsValidNode d node) (sym grows.dim) is.valid;
+  told = λ is_known. reads is_known ∙ is.told (grows.is_known is_known);
 }
 
 -- what is kept agrees as long as each kept page reads as before
-pub agreement_lasts : (kept : Pairs) (old new : Shelf) → GrowsTo old new → Agrees kept old → (IsTrue new.tells → All (λ pair. new.read pair.0 ≡ old.read pair.0) kept.entries) → Agrees kept new
+pub agreement_lasts : (kept : Pairs) (old new : Shelf) → GrowsTo old new → Agrees kept old → (IsTrue new.is_known → All (λ pair. new.read pair.0 ≡ old.read pair.0) kept.entries) → Agrees kept new
 agreement_lasts kept old new grows agrees reads =
     All-weaker (Contains kept.entries) (λ pair. IsNodeOf new pair.0 pair.1)
-    (λ pair within. still_node old new pair.0 pair.1 grows (λ tells. All-contains (λ p. new.read p.0 ≡ old.read p.0) kept.entries pair (reads tells) within)
+    (λ pair within. still_node old new pair.0 pair.1 grows (λ is_known. All-contains (λ p. new.read p.0 ≡ old.read p.0) kept.entries pair (reads is_known) within)
     (All-contains (λ p. IsNodeOf old p.0 p.1) kept.entries pair agrees within)) kept.entries (All-contains_itself kept.entries)
 
 -- pages that hold the same agree with what is kept as before
 pub agrees-same : (kept : Pairs) (old new : Shelf) → HoldsSame old new → Agrees kept old → Agrees kept new
 agrees-same kept old new same agrees =
-    agreement_lasts kept old new (record { dim = same.dim; pages = let e = same.pages in omega arith; tells = λ tells. subst IsTrue same.tells tells }) agrees
-    (λ tells. All-weaker (Contains kept.entries) (λ pair. new.read pair.0 ≡ old.read pair.0) (λ pair within. ap (λ read. read pair.0) same.read) kept.entries (All-contains_itself kept.entries))
+    agreement_lasts kept old new (record { dim = same.dim; pages = let e = same.pages in omega arith; is_known = λ is_known. subst IsTrue same.is_known is_known }) agrees
+    (λ is_known. All-weaker (Contains kept.entries) (λ pair. new.read pair.0 ≡ old.read pair.0) (λ pair within. ap (λ read. read pair.0) same.read) kept.entries (All-contains_itself kept.entries))
 
 -- the node of a page for pages that hold the same
 pub is_node-same : (old new : Shelf) (page : ℕ) (node : Node) → HoldsSame old new → IsNodeOf old page node → IsNodeOf new page node
 is_node-same old new page node same is =
-    still_node old new page node (record { dim = same.dim; pages = let e = same.pages in omega arith; tells = λ tells. subst IsTrue same.tells tells }) (λ tells. ap (λ read. read page) same.read) is
+    still_node old new page node (record { dim = same.dim; pages = let e = same.pages in omega arith; is_known = λ is_known. subst IsTrue same.is_known is_known }) (λ is_known. ap (λ read. read page) same.read) is
 
 -- how often pages were asked for is none of what they hold
 pub is_node-asked : (shelf : Shelf) (asked page : ℕ) (node : Node) → IsNodeOf shelf page node → IsNodeOf (asked_for shelf asked) page node
-is_node-asked shelf asked page node is = record { within = is.within; lawful = is.lawful; told = is.told }
+is_node-asked shelf asked page node is = record { within = is.within; valid = is.valid; told = is.told }
 
 pub holds_same-asked : (old new : Shelf) (before after : ℕ) → HoldsSame old new → HoldsSame (asked_for old before) (asked_for new after)
-holds_same-asked old new before after same = record { dim = same.dim; pages = same.pages; tells = same.tells; read = same.read; faults = same.faults }
+holds_same-asked old new before after same = record { dim = same.dim; pages = same.pages; is_known = same.is_known; read = same.read; faults = same.faults }
 
 pub cause-asked : (old new : Shelf) (before after page : ℕ) (fault : PageFault) → HasPageCause old new page fault → HasPageCause (asked_for old before) (asked_for new after) page fault
 cause-asked old new before after page Disk cause = cause

@@ -12,13 +12,13 @@ EmptyCacheAgrees = (cap : ℕ) (shelf : Shelf) → Agrees (lru_cache [] cap) she
 pub record GrowsTo (old new : Shelf) : Type 0 where
   pub dim : new.dim ≡ old.dim
   pub pages : old.pages ≤ new.pages
-  pub tells : IsTrue new.tells → IsTrue old.tells
+  pub is_known : IsTrue new.is_known → IsTrue old.is_known
 
 -- A cache agrees with pages that grow as long as each cached page holds what it held. So after pages are written anew, only these
 -- have to be forgotten.
 abbrev pub AgreementLasts : Type 0
 AgreementLasts = (kept : Pairs) (old new : Shelf) → GrowsTo old new → Agrees kept old →
-    (IsTrue new.tells → All (λ pair. new.read pair.0 ≡ old.read pair.0) kept.entries) → Agrees kept new
+    (IsTrue new.is_known → All (λ pair. new.read pair.0 ≡ old.read pair.0) kept.entries) → Agrees kept new
 
 -- a forgotten page is no longer cached, and the rest of the cache agrees where the whole did
 abbrev pub ForgettingKeepsAgreement : Type 0

@@ -3,7 +3,7 @@ use Rattle.std.specs.Prelude.{◌≡◌, ℕ, true, false, IsTrue, List, Option,
 use Rattle.std.proofs.Common.{◌∙◌, ap, arith, sym}
 use Rattle.std.proofs.lemmas.Bool.Decides.{nat_tests}
 use Rattle.tree_shape.specs.declared.entry.Node.{Node}
-use Rattle.node_page.specs.Nodes.{IsLawfulNode, fault_in, node_in}
+use Rattle.node_page.specs.Nodes.{IsValidNode, fault_in, node_in}
 use Rattle.node_page.specs.declared.node.Version.{Version}
 use Rattle.node_page.specs.Opening.{page_of}
 use Rattle.page_store.specs.declared.pages.PageFault.{PageFault}
@@ -27,7 +27,7 @@ reads_outside v dim pages file page is = rw is refl
 
 -- the shelf's pages are those of this file, where it tells them
 abbrev pub IsOf : Version → Shelf → List ℕ → Type 0
-IsOf v shelf file = IsTrue shelf.tells → shelf.read ≡ reading_in v shelf.dim shelf.pages file
+IsOf v shelf file = IsTrue shelf.is_known → shelf.read ≡ reading_in v shelf.dim shelf.pages file
 
 told_node : (v : Version) (dim pages : ℕ) (file : List ℕ) (page : ℕ) (node : Node) (bytes : List ℕ) → is_within pages page ≡ true → bytes ≡ page_of file page
     → fault_in v dim bytes ≡ None → node ≡ node_in v dim bytes → reading_in v dim pages file page ≡ Ok node
@@ -42,24 +42,24 @@ told_fault v dim pages file page bytes fault within same some =
     ∙ ap (λ (o : Option _). judged page o (node_in v dim bytes)) some
 
 pub answers_node : (v : Version) (r : Result Node PageFault) (shelf : Shelf) (page : ℕ) (bytes file : List ℕ) → is_within shelf.pages page ≡ true
-    → IfOk r (IsLawfulNode shelf.dim) → IfOk r (λ node. (fault_in v shelf.dim bytes ≡ None) × (node ≡ node_in v shelf.dim bytes))
-    → (IsTrue shelf.tells → bytes ≡ page_of file page) → IsOf v shelf file → IfOk r (IsNodeOf shelf page)
-answers_node v (Ok node) shelf page bytes file within lawful told same of_file = record {
+    → IfOk r (IsValidNode shelf.dim) → IfOk r (λ node. (fault_in v shelf.dim bytes ≡ None) × (node ≡ node_in v shelf.dim bytes))
+    → (IsTrue shelf.is_known → bytes ≡ page_of file page) → IsOf v shelf file → IfOk r (IsNodeOf shelf page)
+answers_node v (Ok node) shelf page bytes file within valid told same of_file = record {
   within = within_by_test shelf.pages page within;
-  lawful = lawful;
-  told = λ tells. ap (λ (read : Read). read page) (of_file tells) ∙ told_node v shelf.dim shelf.pages file page node bytes within (same tells) told.0 told.1;
+  valid = valid;
+  told = λ is_known. ap (λ (read : Read). read page) (of_file is_known) ∙ told_node v shelf.dim shelf.pages file page node bytes within (same is_known) told.0 told.1;
 }
-answers_node v (Err fault) shelf page bytes file within lawful told same of_file = tt
+answers_node v (Err fault) shelf page bytes file within valid told same of_file = tt
 
 pub answers_fault : (v : Version) (r : Result Node PageFault) (old new : Shelf) (page : ℕ) (bytes file : List ℕ) → is_within old.pages page ≡ true
-    → IfErr r (IsBytesFault v old.dim bytes page) → (IsTrue old.tells → bytes ≡ page_of file page) → IsOf v old file → IfErr r (HasPageCause old new page)
+    → IfErr r (IsBytesFault v old.dim bytes page) → (IsTrue old.is_known → bytes ≡ page_of file page) → IsOf v old file → IfErr r (HasPageCause old new page)
 answers_fault v (Ok node) old new page bytes file within fault same of_file = tt
 answers_fault v (Err (Bad p f)) old new page bytes file within fault same of_file = (
   fault.0,
   fault.1,
   within_by_test old.pages page within,
-  λ tells. ap (λ (read : Read). read page) (of_file tells)
-      ∙ told_fault v old.dim old.pages file page bytes f within (same tells) fault.2,
+  λ is_known. ap (λ (read : Read). read page) (of_file is_known)
+      ∙ told_fault v old.dim old.pages file page bytes f within (same is_known) fault.2,
 )
 answers_fault v (Err Memory) old new page bytes file within fault same of_file = tt
 answers_fault v (Err Disk) old new page bytes file within fault same of_file = absurd fault
@@ -73,7 +73,7 @@ pub answers_outside : (v : Version) (old new : Shelf) (page : ℕ) (file : List 
 answers_outside v old new page file is of_file = (
   refl,
   is,
-  λ tells. ap (λ (read : Read). read page) (of_file tells)
+  λ is_known. ap (λ (read : Read). read page) (of_file is_known)
       ∙ reads_outside v old.dim old.pages file page is,
 )
 

@@ -10,8 +10,8 @@ use Rattle.tree_shape.specs.declared.live.Live.{Live}
 use Rattle.tree_shape.specs.Tree.{Nodes, times, IsNodePage}
 use Rattle.tree_shape.proofs.Published.{times-past}
 use Rattle.node_page.specs.Heads.{is_limit}
-use Rattle.node_page.specs.Nodes.{IsLawfulNode}
-use Rattle.node_page.specs.Opening.{IsLawfulLive}
+use Rattle.node_page.specs.Nodes.{IsValidNode}
+use Rattle.node_page.specs.Opening.{IsValidLive}
 use Rattle.node_page.specs.declared.head.Head.{Head}
 use Rattle.page_store.specs.declared.staging.Placed.{Placed}
 use Rattle.page_store.specs.declared.staging.StagedNode.{StagedNode}
@@ -88,13 +88,13 @@ pub is_placement : (head : Head) (t : Live) (numbers : List ℕ) (nodes : List N
     placed.staged ≡ numbered (number_at numbers t.pages) 0 nodes →
     placed.next ≡ record { side = 1 - t.side; generation = t.generation + 1; root = root; height = height; count = t.count + added; pages = t.pages + (length nodes - length numbers) } →
     3 ≤ t.pages → t.pages + (length nodes - length numbers) ≤ 2 ^ 24 → t.count + added ≤ head.limit → t.generation < 2 ^ 48 - 1 → AreNumbers t.pages numbers →
-    (i : ℕ) × (i < length nodes) × (root ≡ number_at numbers t.pages i) → height ≤ 14 → AllByRecursion (IsLawfulNode head.dim) nodes → IsPlacement head t numbers added placed
+    (i : ℕ) × (i < length nodes) × (root ≡ number_at numbers t.pages i) → height ≤ 14 → AllByRecursion (IsValidNode head.dim) nodes → IsPlacement head t numbers added placed
 is_placement head t numbers nodes root height added placed staged next three room count generation are given high writable = record {
   side = ap (λ (n : Live). n.side) next;
   generation = ap (λ (n : Live). n.generation) next;
   count = ap (λ (n : Live). n.count) next;
   pages = ap (λ (n : Live). n.pages) next ∙ ap (λ (k : ℕ). t.pages + (k - length numbers)) (sym long);
-  lawful = subst (λ (n : Live). IsLawfulLive head.limit (n.pages * 4096) n) (sym next) (record {
+  valid = subst (λ (n : Live). IsValidLive head.limit (n.pages * 4096) n) (sym next) (record {
     low_generation = omega arith;
     high_generation = omega (arith, generation);
     low_root = (let w = within given.0 given.1 in let e = given.2 in let a = w.0 in omega (arith, a, e));
@@ -106,9 +106,9 @@ is_placement head t numbers nodes root height added placed staged next three roo
     room = omega arith;
   });
   numbered = ap pages_of staged ∙ pages_numbered (number_at numbers t.pages) 0 nodes ∙ pages_range (number_at numbers t.pages) 0 nodes ∙ ap (λ (k : ℕ). map (number_at numbers t.pages) (range_with_len 0 k)) (sym long);
-  nodes = subst (λ (k : ℕ). AllByRecursion (λ s. IsWithin k s.page × IsLawfulNode head.dim s.node) placed.staged) (sym (ap (λ (n : Live). n.pages) next))
-      (subst (AllByRecursion (λ s. IsWithin (t.pages + (length nodes - length numbers)) s.page × IsLawfulNode head.dim s.node)) (sym staged)
-      (all_numbered (IsWithin (t.pages + (length nodes - length numbers))) (IsLawfulNode head.dim) (number_at numbers t.pages) 0 (length nodes) nodes (omega arith) within writable));
+  nodes = subst (λ (k : ℕ). AllByRecursion (λ s. IsWithin k s.page × IsValidNode head.dim s.node) placed.staged) (sym (ap (λ (n : Live). n.pages) next))
+      (subst (AllByRecursion (λ s. IsWithin (t.pages + (length nodes - length numbers)) s.page × IsValidNode head.dim s.node)) (sym staged)
+      (all_numbered (IsWithin (t.pages + (length nodes - length numbers))) (IsValidNode head.dim) (number_at numbers t.pages) 0 (length nodes) nodes (omega arith) within writable));
   given = subst (AllByRecursion (λ s. IsIn s.page numbers ⊎ (t.pages ≤ s.page))) (sym staged) (all_given numbers t.pages 0 nodes);
   new_pages = λ page low below. subst (IsIn page) (sym (ap pages_of staged ∙ pages_numbered (number_at numbers t.pages) 0 nodes))
       (end_given numbers t.pages nodes page low (let e = ap (λ (n : Live). n.pages) next in omega (arith, below, e)));

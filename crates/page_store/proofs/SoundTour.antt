@@ -23,7 +23,7 @@ use Rattle.page_store.proofs.OneTour.{one_course}
 
 module _ (s : Space) (nodes : Nodes) where
   abbrev IsBelow : ℕ → Option (List ℕ) → InnerEntry → Type 0
-  IsBelow h above e = IsSoundEntry s above (objects_at nodes h e.child) e × IsSoundAt s nodes h (least_for s.words) (Some e.point) e.child
+  IsBelow h above e = IsSoundEntry s above (objects_at nodes h e.child) e × IsSoundAt s nodes h (least_for s.dimension) (Some e.point) e.child
 
   -- the walk opens the pages of a subtree, and then goes on
   abbrev Opens : ℕ → ℕ → List ℕ → Type 0
@@ -43,7 +43,7 @@ module _ (s : Space) (nodes : Nodes) where
     sound.1,
     refl,
     subst (λ (o : Option Node). Tours nodes (map (λ e. e.child) sound.0 ++ ps) (flat_map (λ e. pages_at nodes h e.child) (inner_entries o) ++ os) left) (sym sound.1)
-        (entries_tour h above left (λ e both. subtree_tours h (least_for s.words) (Some e.point) e.child left both.1) sound.0 sound.3 ps os rest),
+        (entries_tour h above left (λ e both. subtree_tours h (least_for s.dimension) (Some e.point) e.child left both.1) sound.0 sound.3 ps os rest),
   )
 
 pub sound_is_toured : SoundTreesAreToured
@@ -65,12 +65,12 @@ no_node s t old page fault why sound =
     let none : nodes_of old.read page ≡ None = ap node_or_none why.0 in
     cc
 
-pub tour_passes : (s : Space) (t : Live) (old new : Shelf) (fault : PageFault) → HasTourCause t old new fault → IsTrue old.tells → IsSoundTree s (nodes_of old.read) t → IsPassing fault
-tour_passes s t old new Disk cause tells sound = tt
-tour_passes s t old new Memory cause tells sound = tt
-tour_passes s t old new (Bad page fault) cause tells sound = absurd (no_node s t old page (Bad page fault) (cause.2 tells) sound)
-tour_passes s t old new (Outside page) cause tells sound = absurd (no_node s t old page (Outside page) (cause.1 tells) sound)
-tour_passes s t old new (Repeats page) cause tells sound =
-    let low = (sound_names s (nodes_of old.read) t t.pages page sound (cause.1 tells)).0 in
+pub tour_passes : (s : Space) (t : Live) (old new : Shelf) (fault : PageFault) → HasTourCause t old new fault → IsTrue old.is_known → IsSoundTree s (nodes_of old.read) t → IsPassing fault
+tour_passes s t old new Disk cause is_known sound = tt
+tour_passes s t old new Memory cause is_known sound = tt
+tour_passes s t old new (Bad page fault) cause is_known sound = absurd (no_node s t old page (Bad page fault) (cause.2 is_known) sound)
+tour_passes s t old new (Outside page) cause is_known sound = absurd (no_node s t old page (Outside page) (cause.1 is_known) sound)
+tour_passes s t old new (Repeats page) cause is_known sound =
+    let low = (sound_names s (nodes_of old.read) t t.pages page sound (cause.1 is_known)).0 in
     absurd (omega (arith, low))
-tour_passes s t old new (Level page) cause tells sound = absurd cause
+tour_passes s t old new (Level page) cause is_known sound = absurd cause

@@ -39,7 +39,7 @@ sound_of_stored s nodes zero least above page stored plain =
     let p : IsSoundPlain s zero least (map object_of stored.0) = subst (λ (o : Option Node). IsSoundPlain s zero least (map object_of (leaf_entries o))) stored.1 plain in (
       stored.0,
       stored.1,
-      filled_map object_of s.words least stored.0 p.0,
+      filled_map object_of s.dimension least stored.0 p.0,
       both stored.0 stored.2 (all_map (ObjectFits s) object_of stored.0 p.1),
     )
   where
@@ -50,14 +50,14 @@ sound_of_stored s nodes (suc h) least above page stored plain =
     let p : IsSoundPlain s (suc h) least (map (branch_at nodes h) stored.0) = subst (λ (o : Option Node). IsSoundPlain s (suc h) least (map (branch_at nodes h) (inner_entries o))) stored.1 plain in (
       stored.0,
       stored.1,
-      filled_map (branch_at nodes h) s.words least stored.0 p.0,
-      both (λ c above p q. sound_of_stored s nodes h (least_for s.words) above c p q) stored.0 stored.2
-          (all_map (λ (b : Branch (Plain h)). IsTrue (s.fits b.point) × BranchCovers s h b × IsSoundPlain s h (least_for s.words) b.below) (branch_at nodes h) stored.0 p.1),
+      filled_map (branch_at nodes h) s.dimension least stored.0 p.0,
+      both (λ c above p q. sound_of_stored s nodes h (least_for s.dimension) above c p q) stored.0 stored.2
+          (all_map (λ (b : Branch (Plain h)). IsTrue (s.is_point b.point) × BranchCovers s h b × IsSoundPlain s h (least_for s.dimension) b.below) (branch_at nodes h) stored.0 p.1),
     )
   where
-    both : ((c : ℕ) (above : Option (List ℕ)) → IsStoredAt s nodes h above c → IsSoundPlain s h (least_for s.words) (tree_at nodes h c) → IsSoundAt s nodes h (least_for s.words) above c) →
-        (es : List InnerEntry) → AllByRecursion (IsStoredEntry s nodes h above) es → AllByRecursion (λ e. IsTrue (s.fits e.point) × BranchCovers s h (branch_at nodes h e) × IsSoundPlain s h (least_for s.words) (tree_at nodes h e.child)) es →
-        AllByRecursion (λ e. IsSoundEntry s above (objects_at nodes h e.child) e × IsSoundAt s nodes h (least_for s.words) (Some e.point) e.child) es
+    both : ((c : ℕ) (above : Option (List ℕ)) → IsStoredAt s nodes h above c → IsSoundPlain s h (least_for s.dimension) (tree_at nodes h c) → IsSoundAt s nodes h (least_for s.dimension) above c) →
+        (es : List InnerEntry) → AllByRecursion (IsStoredEntry s nodes h above) es → AllByRecursion (λ e. IsTrue (s.is_point e.point) × BranchCovers s h (branch_at nodes h e) × IsSoundPlain s h (least_for s.dimension) (tree_at nodes h e.child)) es →
+        AllByRecursion (λ e. IsSoundEntry s above (objects_at nodes h e.child) e × IsSoundAt s nodes h (least_for s.dimension) (Some e.point) e.child) es
     both deep [] a b = tt
     both deep (e ∷ es) a b = (
       (

@@ -23,29 +23,29 @@ tours_more nodes (q ∷ qs) (o ∷ os) p left node is walk = (walk.0, walk.1, wa
 
 -- a walk that has opened fewer pages than there are stops where the page that it names gives no node
 module _ (live : Live) (old now new : Shelf) (opened page : ℕ) (holds : HoldsSame old now) (low : opened < live.pages)
-    (named : IsTrue old.tells → Names (nodes_of old.read) live.root opened page) where
-  names_as : (there : ℕ) → page ≡ there → IsTrue old.tells → Names (nodes_of old.read) live.root opened there
-  names_as there is tells = subst (λ (p : ℕ). Names (nodes_of old.read) live.root opened p) is (named tells)
+    (named : IsTrue old.is_known → Names (nodes_of old.read) live.root opened page) where
+  names_as : (there : ℕ) → page ≡ there → IsTrue old.is_known → Names (nodes_of old.read) live.root opened there
+  names_as there is is_known = subst (λ (p : ℕ). Names (nodes_of old.read) live.root opened p) is (named is_known)
 
   pub page_stops : (fault : PageFault) → HasPageCause now new page fault → HasTourCause live old new fault
   page_stops Disk cause = (let l = holds.faults in let c = cause in omega arith)
   page_stops (Bad p fault) cause = (
     cause.1,
     subst (λ (n : ℕ). IsWithin n p) holds.pages (subst (λ (k : ℕ). IsWithin now.pages k) (sym cause.0) cause.2),
-    λ tells. (
+    λ is_known. (
       subst (λ (k : ℕ). old.read k ≡ Err (Bad p fault)) (sym cause.0)
           (subst (λ (k : ℕ). old.read page ≡ Err (Bad k fault)) (sym cause.0)
-          (ap (λ (r : Read). r page) (sym holds.read) ∙ cause.3 (rw holds.tells tells))),
-      (opened, low, names_as p (sym cause.0) tells),
+          (ap (λ (r : Read). r page) (sym holds.read) ∙ cause.3 (rw holds.is_known is_known))),
+      (opened, low, names_as p (sym cause.0) is_known),
     ),
   )
   page_stops (Outside p) cause = (
     subst (λ (n : ℕ). is_within n p ≡ false) holds.pages (subst (λ (k : ℕ). is_within now.pages k ≡ false) (sym cause.0) cause.1),
-    λ tells. (
+    λ is_known. (
       subst (λ (k : ℕ). old.read k ≡ Err (Outside p)) (sym cause.0)
           (subst (λ (k : ℕ). old.read page ≡ Err (Outside k)) (sym cause.0)
-          (ap (λ (r : Read). r page) (sym holds.read) ∙ cause.2 (rw holds.tells tells))),
-      (opened, low, names_as p (sym cause.0) tells),
+          (ap (λ (r : Read). r page) (sym holds.read) ∙ cause.2 (rw holds.is_known is_known))),
+      (opened, low, names_as p (sym cause.0) is_known),
     ),
   )
   page_stops Memory cause = tt

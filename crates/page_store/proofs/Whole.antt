@@ -23,7 +23,7 @@ use Rattle.page_store.proofs.Standing.{all_each, in_times, times_in}
 
 module _ (s : Space) (nodes : Nodes) where
   abbrev Subtree : ℕ → Option (List ℕ) → InnerEntry → Type 0
-  Subtree h above e = IsSoundEntry s above (objects_at nodes h e.child) e × IsSoundAt s nodes h (least_for s.words) (Some e.point) e.child
+  Subtree h above e = IsSoundEntry s above (objects_at nodes h e.child) e × IsSoundAt s nodes h (least_for s.dimension) (Some e.point) e.child
 
   -- a page and what its subtree names are its subtree's pages
   abbrev NamesItsPages : ℕ → ℕ → Type 0
@@ -51,7 +51,7 @@ module _ (s : Space) (nodes : Nodes) where
       let below : inner_entries (nodes page) ≡ es = ap (λ (n : Option Node). inner_entries n) sound.1 in
       let rest = flat_map (λ e. pages_at nodes h e.child) (inner_entries (nodes page)) in
       let all : AllByRecursion (λ e. NamesItsPages h e.child) es =
-      all_weaker (Subtree h above) (λ (e : InnerEntry). NamesItsPages h e.child) es (λ e both. subtree_names h (least_for s.words) (Some e.point) e.child both.1) sound.3 in
+      all_weaker (Subtree h above) (λ (e : InnerEntry). NamesItsPages h e.child) es (λ e both. subtree_names h (least_for s.dimension) (Some e.point) e.child both.1) sound.3 in
       let n = entries_name h (inner_entries (nodes page)) (subst (AllByRecursion (λ e. NamesItsPages h e.child)) (sym below) all) k in
       let a = times-append k (in_node nodes page) (named_in nodes rest) in
       omega arith

@@ -15,7 +15,7 @@ nodes_in dim live file = nodes_of (reading dim live.pages file)
 pub record IsSoundFile (s : Space) (head : Head) (live : Live) (file : List ℕ) : Type 0 where
   pub opens : OpensTo file head live
   pub version : head.version ≡ 2
-  pub words : s.words ≡ head.dim
+  pub dimension : s.dimension ≡ head.dim
   pub tree : IsSoundTree s (nodes_in head.dim live file) live
 
 -- the objects' points and tags, in order of id

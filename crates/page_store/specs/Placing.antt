@@ -7,8 +7,8 @@ use Rattle.tree_shape.specs.declared.entry.Node.{Node}
 use Rattle.tree_shape.specs.declared.entry.Node.TheVariants.{Leaf, Inner}
 use Rattle.tree_shape.specs.Tree.{Nodes, pages_at, times}
 use Rattle.tree_shape.specs.Plain.{Tall, tree_at}
-use Rattle.node_page.specs.Nodes.{IsLawfulNode}
-use Rattle.node_page.specs.Opening.{IsLawfulLive}
+use Rattle.node_page.specs.Nodes.{IsValidNode}
+use Rattle.node_page.specs.Opening.{IsValidLive}
 use Rattle.node_page.specs.declared.head.Head.{Head}
 use Rattle.page_store.specs.declared.staging.Placed.{Placed}
 use Rattle.page_store.specs.declared.staging.StagedNode.{StagedNode}
@@ -46,9 +46,9 @@ pub record IsPlacement (head : Head) (t : Live) (numbers : List ℕ) (added : �
   pub generation : placed.next.generation ≡ t.generation + 1
   pub count : placed.next.count ≡ t.count + added
   pub pages : placed.next.pages ≡ t.pages + (length placed.staged - length numbers)
-  pub lawful : IsLawfulLive head.limit (placed.next.pages * 4096) placed.next
+  pub valid : IsValidLive head.limit (placed.next.pages * 4096) placed.next
   pub numbered : pages_of placed.staged ≡ map (number_at numbers t.pages) (range_with_len 0 (length placed.staged))
-  pub nodes : AllByRecursion (λ s. IsWithin placed.next.pages s.page × IsLawfulNode head.dim s.node) placed.staged
+  pub nodes : AllByRecursion (λ s. IsWithin placed.next.pages s.page × IsValidNode head.dim s.node) placed.staged
   pub given : AllByRecursion (λ s. IsIn s.page numbers ⊎ (t.pages ≤ s.page)) placed.staged
   pub new_pages : (page : ℕ) → t.pages ≤ page → page < placed.next.pages → IsIn page (pages_of placed.staged)
 

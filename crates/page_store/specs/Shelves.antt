@@ -7,14 +7,14 @@ use Rattle.page_store.specs.Shelf.{Shelf}
 
 -- the pages of bytes in memory, which always tell
 abbrev pub image_shelf : ℕ → ℕ → List ℕ → ℕ → Shelf
-image_shelf dim pages file asked = record { dim = dim; pages = pages; tells = true; read = reading dim pages file; asked = asked; reads = 0; faults = 0 }
+image_shelf dim pages file asked = record { dim = dim; pages = pages; is_known = true; read = reading dim pages file; asked = asked; reads = 0; faults = 0 }
 
 -- the pages of a file of a version on a disk
 abbrev pub disk_shelf : Version → ℕ → ℕ → DiskState → ℕ → Shelf
 disk_shelf version dim pages disk asked = record {
   dim = dim;
   pages = pages;
-  tells = disk.tells;
+  is_known = disk.is_known;
   read = reading_in version dim pages disk.bytes;
   asked = asked;
   reads = disk.reads;

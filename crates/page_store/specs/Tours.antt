@@ -57,9 +57,9 @@ abbrev pub HasTourCause : Live → Shelf → Shelf → PageFault → Type 0
 HasTourCause live old new Disk = Rose old.faults new.faults
 HasTourCause live old new Memory = Unit {0}
 HasTourCause live old new (Bad page fault) = (fault ≢ NodeMemory) × IsWithin old.pages page
-    × (IsTrue old.tells → (old.read page ≡ Err (Bad page fault)) × NamesInside (nodes_of old.read) live page)
+    × (IsTrue old.is_known → (old.read page ≡ Err (Bad page fault)) × NamesInside (nodes_of old.read) live page)
 HasTourCause live old new (Outside page) = (is_within old.pages page ≡ false)
-    × (IsTrue old.tells → (old.read page ≡ Err (Outside page)) × NamesInside (nodes_of old.read) live page)
+    × (IsTrue old.is_known → (old.read page ≡ Err (Outside page)) × NamesInside (nodes_of old.read) live page)
 HasTourCause live old new (Repeats page) =
-    (new.asked ≡ count_up old.asked live.pages) × (IsTrue old.tells → Names (nodes_of old.read) live.root live.pages page)
+    (new.asked ≡ count_up old.asked live.pages) × (IsTrue old.is_known → Names (nodes_of old.read) live.root live.pages page)
 HasTourCause live old new (Level page) = ⊥

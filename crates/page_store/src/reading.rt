@@ -1,6 +1,6 @@
 ghost use Rattle.std.specs.Prelude.{◌≡◌, ◌⊎◌, ◌+◌, ◌^◌, ◌<◌, ◌≤◌, IsTrue, OnOk, IfOk, IfErr, IfSome, slice_index};
 ghost use Rattle.page_store.specs.Reading.{is_within, IsBytesFault};
-ghost use Rattle.node_page.specs.Nodes.{IsLawfulNode, fault_in, node_in};
+ghost use Rattle.node_page.specs.Nodes.{IsValidNode, fault_in, node_in};
 ghost use Rattle.outside_io.specs.Causes.{HasCause};
 ghost use Rattle.disk_model.specs.Disk.{IsUnchanged};
 ghost use Rattle.node_page.specs.Opening.{page_of};
@@ -15,7 +15,7 @@ use tree_shape::{Node, PAGE};
 /// Reads the bytes of page `page`. Bytes past the end of the file are 0. After `Failed` the buffer may hold anything.
 pub fn read_page<D: Disk>(disk: &mut D, page: u32, bytes: &mut [u8; 4096]) -> Result<(), Failed>
     requires { page < 2 ^ 24 }
-    ensures read { OnOk result (IsTrue (D.state disk.old).tells → bytes.new ≡ page_of (D.state disk.old).bytes page) }
+    ensures read { OnOk result (IsTrue (D.state disk.old).is_known → bytes.new ≡ page_of (D.state disk.old).bytes page) }
     ensures same { IsUnchanged (D.state disk.old) (D.state disk.new) }
     ensures reads { (D.state disk.new).reads ≤ (D.state disk.old).reads + 1 }
     ensures cause { HasCause (D.state disk.old).faults (D.state disk.new).faults result }
@@ -71,7 +71,7 @@ pub fn node_on(
 ) -> Result<SharedNode, PageFault>
     requires some { 1 ≤ dim }
     requires few { dim ≤ 64 }
-    ensures lawful { IfOk result (IsLawfulNode dim) }
+    ensures valid { IfOk result (IsValidNode dim) }
     ensures told { IfOk result (λ node. (fault_in version dim bytes.now ≡ None)
         × (node ≡ node_in version dim bytes.now)) }
     ensures fault { IfErr result (IsBytesFault version dim bytes.now page) }
@@ -94,7 +94,7 @@ pub fn node_on_cut(
 ) -> Result<SharedNode, PageFault>
     requires some { 1 ≤ dim }
     requires few { dim ≤ 64 }
-    ensures lawful { IfOk result (IsLawfulNode dim) }
+    ensures valid { IfOk result (IsValidNode dim) }
     ensures told { IfOk result (λ node. (fault_in Second dim (page_of file.now number) ≡ None)
         × (node ≡ node_in Second dim (page_of file.now number))) }
     ensures fault { IfErr result (IsBytesFault Second dim (page_of file.now number) page) }

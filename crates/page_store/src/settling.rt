@@ -1,7 +1,7 @@
 ghost use Rattle.std.specs.Prelude.{◌≡◌, ◌≢◌, ◌+◌, ◌-◌, ◌*◌, ◌≤◌, ◌<◌, ◌^◌, [], length, reverse, ℕ, IfOk, IfErr, OnOk};
 ghost use Rattle.std.specs.List.{AllByRecursion};
-ghost use Rattle.node_page.specs.Nodes.{IsLawfulNode};
-ghost use Rattle.node_page.specs.Opening.{IsLawfulLive};
+ghost use Rattle.node_page.specs.Nodes.{IsValidNode};
+ghost use Rattle.node_page.specs.Opening.{IsValidLive};
 ghost use Rattle.node_page.specs.declared.head.Head.{Head};
 ghost use Rattle.page_store.specs.Numbers.{number_at, numbered, AreNumbers};
 ghost use Rattle.page_store.specs.Placing.{HasRoomCause, IsPlacement};
@@ -129,7 +129,7 @@ pub fn settle(
 
     // The placement can be committed under each head that allows this number of objects and whose pages can hold the nodes.
     ensures placement { IfOk result (λ placed. (head : Head) → live.now.count + tree.added ≤ head.limit →
-        AllByRecursion (IsLawfulNode head.dim) tree.nodes.items →
+        AllByRecursion (IsValidNode head.dim) tree.nodes.items →
         IsPlacement head live.now numbering.now.numbers.now tree.added placed) }
 
     // When settling fails.

@@ -38,15 +38,15 @@ module _ (old : Shelf) (live : Live) where
     most = refl;
     asked = refl;
     reads = omega arith;
-    walk = λ tells. refl;
+    walk = λ is_known. refl;
   }
 
   pub tour_begins : (course : Course) → course ≡ at_root live → IsOnTour old old live course []
   tour_begins course is = subst (λ (x : Course). IsOnTour old old live x []) (sym is) begun
 
   module _ (now new : Shelf) (course : Course) (opened : List ℕ) (before : IsOnTour old now live course opened) where
-    on_tour : (page : ℕ) (left : List ℕ) → course.coming ≡ page ∷ left → IsTrue old.tells → Tours (nodes_of old.read) (live.root ∷ []) opened (page ∷ left)
-    on_tour page left next tells = subst (λ (c : List ℕ). Tours (nodes_of old.read) (live.root ∷ []) opened c) next (before.walk tells)
+    on_tour : (page : ℕ) (left : List ℕ) → course.coming ≡ page ∷ left → IsTrue old.is_known → Tours (nodes_of old.read) (live.root ∷ []) opened (page ∷ left)
+    on_tour page left next is_known = subst (λ (c : List ℕ). Tours (nodes_of old.read) (live.root ∷ []) opened c) next (before.walk is_known)
 
     pub tour_goes_on : (next : Course) (page : ℕ) (node : Node) → OpensNext now new course next page node → HoldsSame now new → new.reads ≤ now.reads + 1 → IsOnTour old new live next (opened ++ page ∷ [])
     tour_goes_on next page node opens same reads =
@@ -60,13 +60,13 @@ module _ (old : Shelf) (live : Live) where
           most = most ∙ before.most;
           asked = opens.asked ∙ ap next_count before.asked ∙ count_up_more old.asked (length opened) ∙ ap (count_up old.asked) (sym long);
           reads = (let b = before.reads in omega arith);
-          walk = λ tells.
+          walk = λ is_known.
               subst (λ (c : List ℕ). Tours (nodes_of old.read) (live.root ∷ []) (opened ++ page ∷ []) c) (sym (ap (λ (c : Course). c.coming) opens.new_is))
-              (tours_more (nodes_of old.read) (live.root ∷ []) opened page opens.left node (told_then old now page node before.same opens.is tells) (on_tour page opens.left opens.next tells));
+              (tours_more (nodes_of old.read) (live.root ∷ []) opened page opens.left node (told_then old now page node before.same opens.is is_known) (on_tour page opens.left opens.next is_known));
         }
 
-    named : (page : ℕ) (left : List ℕ) → course.coming ≡ page ∷ left → IsTrue old.tells → Names (nodes_of old.read) live.root (length opened) page
-    named page left next tells = record { before = opened; rest = left; walk = on_tour page left next tells; count = refl }
+    named : (page : ℕ) (left : List ℕ) → course.coming ≡ page ∷ left → IsTrue old.is_known → Names (nodes_of old.read) live.root (length opened) page
+    named page left next is_known = record { before = opened; rest = left; walk = on_tour page left next is_known; count = refl }
 
     -- a page that gives no node
     no_node : (fault : PageFault) (page : ℕ) (left : List ℕ) → course.coming ≡ page ∷ left → course.opened < course.most → HasPageCause now new page fault → HasTourCause live old new fault
@@ -82,9 +82,9 @@ module _ (old : Shelf) (live : Live) where
     from (Repeats p) page left next why =
         let all : length opened ≡ live.pages = sym before.count ∙ why.1 ∙ before.most in (
           ap (λ (s : Shelf). s.asked) why.2 ∙ before.asked ∙ ap (count_up old.asked) all,
-          λ tells.
+          λ is_known.
               subst (λ (p : ℕ). Names (nodes_of old.read) live.root live.pages p) (sym why.0)
-              (subst (λ (k : ℕ). Names (nodes_of old.read) live.root k page) all (named page left next tells)),
+              (subst (λ (k : ℕ). Names (nodes_of old.read) live.root k page) all (named page left next is_known)),
         )
 
     pub tour_stops : (fault : PageFault) → StopsNext now new course fault → HasTourCause live old new fault
@@ -105,5 +105,5 @@ module _ (old : Shelf) (live : Live) where
     tour_reads fault reads stop = few_reads fault stop.page reads stop.why
 
     -- a walk that has no page left is whole
-    pub tour_ends : course.coming ≡ [] → IsTrue old.tells → Tours (nodes_of old.read) (live.root ∷ []) opened []
-    tour_ends none tells = subst (λ (c : List ℕ). Tours (nodes_of old.read) (live.root ∷ []) opened c) none (before.walk tells)
+    pub tour_ends : course.coming ≡ [] → IsTrue old.is_known → Tours (nodes_of old.read) (live.root ∷ []) opened []
+    tour_ends none is_known = subst (λ (c : List ℕ). Tours (nodes_of old.read) (live.root ∷ []) opened c) none (before.walk is_known)

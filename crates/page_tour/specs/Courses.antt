@@ -45,7 +45,7 @@ pub record IsOnTour (old now : Shelf) (live : Live) (course : Course) (opened : 
   pub most : course.most ≡ live.pages
   pub asked : now.asked ≡ count_up old.asked (length opened)
   pub reads : now.reads ≤ old.reads + length opened
-  pub walk : IsTrue old.tells → Tours (nodes_of old.read) (live.root ∷ []) opened course.coming
+  pub walk : IsTrue old.is_known → Tours (nodes_of old.read) (live.root ∷ []) opened course.coming
 
 -- the walk of the live tree is whole, and opens `count` pages
 pub record HasNodes (nodes : Nodes) (live : Live) (count : ℕ) : Type 0 where

@@ -92,10 +92,10 @@ pub fn count_nodes<P: Pages>(alloc: Global, pages: &mut P, live: &Live) -> Resul
     ensures keeps { P.keeps pages.old pages.new }
     ensures no_fault { OnOk result ((P.shelf pages.new).faults ≡ (P.shelf pages.old).faults) }
     ensures reads { (P.shelf pages.new).reads ≤ (P.shelf pages.old).reads + live.now.pages }
-    ensures counted { IfOk result (λ count. IsTrue (P.shelf pages.old).tells →
+    ensures counted { IfOk result (λ count. IsTrue (P.shelf pages.old).is_known →
         HasNodes (nodes_of (P.shelf pages.old).read) live.now count) }
     ensures cause { IfErr result (HasTourCause live.now (P.shelf pages.old) (P.shelf pages.new)) }
-    ensures sound { IfErr result (λ fault. IsTrue (P.shelf pages.old).tells → (s : Space) →
+    ensures sound { IfErr result (λ fault. IsTrue (P.shelf pages.old).is_known → (s : Space) →
         IsSoundTree s (nodes_of (P.shelf pages.old).read) live.now → IsPassing fault) }
 {
     let mut tour = Tour::begin(alloc, live)?;

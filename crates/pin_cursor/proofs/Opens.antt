@@ -38,7 +38,7 @@ pub has_node : (s : Space) (nodes : Nodes) (h least : ℕ) (above : Option (List
 has_node s nodes zero least above page sound = (Leaf sound.0, sound.1)
 has_node s nodes (suc h) least above page sound = (Inner (suc h) sound.0, sound.1)
 
-module _ (s : Space) (axioms : IsSpace s) (nodes : Nodes) (live : Live) (q : List ℕ) (q_fits : IsTrue (s.fits q)) where
+module _ (s : Space) (axioms : IsSpace s) (nodes : Nodes) (live : Live) (q : List ℕ) (q_fits : IsTrue (s.is_point q)) where
   -- what a subtree's node holds stands for the subtree
   record Splits (x : Subtree) (o : Option Node) : Type 0 where
     pub coming_is : coming s q nodes x ≡ map (candidate_of s q) (leaf_entries o) ++ flat_map (coming s q nodes) (map (subtree_of s q) (inner_entries o))
@@ -77,12 +77,12 @@ module _ (s : Space) (axioms : IsSpace s) (nodes : Nodes) (live : Live) (q : Lis
       entry e k = all_in (SoundSubtree s nodes h above) sound.0 e sound.3 (subst (λ (l : List InnerEntry). IsIn e l) are k)
 
       child_level : (e : InnerEntry) → IsIn e es → node_level (nodes e.child) ≡ h
-      child_level e k = level_is s nodes h (least_for s.words) (Some e.point) e.child (entry e k).1
+      child_level e k = level_is s nodes h (least_for s.dimension) (Some e.point) e.child (entry e k).1
 
       child_low : (e : InnerEntry) → IsIn e es → (o : LeafEntry) → IsIn o (objects_at nodes h e.child) → s.dist e.point q - e.radius ≤ s.dist o.point q
       child_low e k o i =
           let sub = entry e k in
-          let fit = all_in (Fits s) (objects_at nodes h e.child) o (objects_fit s nodes h (least_for s.words) (Some e.point) e.child sub.1) i in
+          let fit = all_in (Fits s) (objects_at nodes h e.child) o (objects_fit s nodes h (least_for s.dimension) (Some e.point) e.child sub.1) i in
           let cover = all_in (λ o. s.dist o.point e.point ≤ e.radius) (objects_at nodes h e.child) o sub.0.covers i in
           let t = axioms.triangle e.point o.point q sub.0.point_fits fit q_fits in
           let y = axioms.symmetric e.point o.point sub.0.point_fits fit in
@@ -91,7 +91,7 @@ module _ (s : Space) (axioms : IsSpace s) (nodes : Nodes) (live : Live) (q : Lis
       child : (e : InnerEntry) → IsIn e es → IsSubtreeOf s nodes live q (subtree_of s q e)
       child e k = record {
         height = h;
-        least = least_for s.words;
+        least = least_for s.dimension;
         above = Some e.point;
         sound = (entry e k).1;
         low = child_low e k;
@@ -114,7 +114,7 @@ module _ (s : Space) (axioms : IsSpace s) (nodes : Nodes) (live : Live) (q : Lis
     splits zero least above sound within = leaf_splits least above sound
     splits (suc h) least above sound within = inner_splits h least above sound within
 
-module _ (s : Space) (axioms : IsSpace s) (nodes : Nodes) (c : OpenCursor) (q_fits : IsTrue (s.fits c.point)) (sound : IsSoundTree s nodes c.live) (on : IsCursorOn s nodes c)
+module _ (s : Space) (axioms : IsSpace s) (nodes : Nodes) (c : OpenCursor) (q_fits : IsTrue (s.is_point c.point)) (sound : IsSoundTree s nodes c.live) (on : IsCursorOn s nodes c)
     (x : Subtree) (rest : List Subtree) (popped : IsPermutation c.subtrees (x ∷ rest)) where
   subtree : IsSubtreeOf s nodes c.live c.point x
   subtree = on.subtrees x (in-permutation_back c.subtrees (x ∷ rest) x popped (inl refl))

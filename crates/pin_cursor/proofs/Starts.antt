@@ -64,7 +64,7 @@ ids_same : (s : Space) (q : List ℕ) (id : ℕ) (os : List LeafEntry) → times
 ids_same s q id [] = refl
 ids_same s q id (o ∷ os) = ap (λ (n : ℕ). (if o.id == id then 1 else 0) + n) (ids_same s q id os)
 
-module _ (s : Space) (nodes : Nodes) (axioms : IsSpace s) (live : Live) (q : List ℕ) (sound : IsSoundTree s nodes live) (q_fits : IsTrue (s.fits q)) where
+module _ (s : Space) (nodes : Nodes) (axioms : IsSpace s) (live : Live) (q : List ℕ) (sound : IsSoundTree s nodes live) (q_fits : IsTrue (s.is_point q)) where
   abbrev os : List LeafEntry
   os = objects nodes live
 

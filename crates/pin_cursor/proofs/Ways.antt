@@ -13,7 +13,7 @@ use Rattle.tree_shape.specs.declared.live.Live.{Live}
 use Rattle.tree_shape.specs.declared.entry.Node.{Node}
 use Rattle.tree_shape.specs.declared.entry.Node.TheVariants.{Leaf, Inner}
 use Rattle.tree_shape.specs.Tree.{Nodes, IsSoundTree, leaf_entries, inner_entries, points_by_id}
-use Rattle.node_page.specs.Nodes.{IsLawfulNode}
+use Rattle.node_page.specs.Nodes.{IsValidNode}
 use Rattle.page_store.specs.declared.pages.PageFault.{PageFault}
 use Rattle.page_store.specs.declared.pages.PageFault.TheVariants.{Disk, Bad, Outside, Memory, Repeats, Level}
 use Rattle.page_store.specs.Reached.{IsReached}
@@ -32,15 +32,15 @@ use Rattle.pin_cursor.proofs.Walking.{walk_opens, opens_before}
 use Rattle.pin_cursor.proofs.Opens.{page_there, node_there, opens_room, opened_stands}
 use Rattle.page_store.proofs.Published.{holds_none, holds_both}
 
-objects_few : (dim : ℕ) (node : Node) → IsLawfulNode dim node → length (leaf_entries (Some node)) ≤ 32
-objects_few dim (Leaf es) lawful = let few = lawful.0 in omega arith
-objects_few dim (Inner level es) lawful = omega arith
+objects_few : (dim : ℕ) (node : Node) → IsValidNode dim node → length (leaf_entries (Some node)) ≤ 32
+objects_few dim (Leaf es) valid = let few = valid.0 in omega arith
+objects_few dim (Inner level es) valid = omega arith
 
 none_in : {X : Type 0} (l : List X) → ((x : X) → IsIn x l → ⊥) → l ≡ []
 none_in [] none = refl
 none_in (x ∷ l) none = absurd (none x (inl refl))
 
-module _ (s : Space) (axioms : IsSpace s) (old : Shelf) (live : Live) (q : List ℕ) (q_fits : IsTrue (s.fits q)) (g0 o0 : ℕ) (xs0 : List Subtree) (cs0 : List Candidate) where
+module _ (s : Space) (axioms : IsSpace s) (old : Shelf) (live : Live) (q : List ℕ) (q_fits : IsTrue (s.is_point q)) (g0 o0 : ℕ) (xs0 : List Subtree) (cs0 : List Candidate) where
   abbrev pub start : OpenCursor
   start = stage live q g0 o0 xs0 cs0
 
@@ -54,9 +54,9 @@ module _ (s : Space) (axioms : IsSpace s) (old : Shelf) (live : Live) (q : List 
     given = omega arith;
     tagged = refl;
     room = room;
-    reached = λ tells x k. (x, k, at_root);
-    walks = λ tells walked. walked;
-    accounted = λ tells. record {
+    reached = λ is_known x k. (x, k, at_root);
+    walks = λ is_known walked. walked;
+    accounted = λ is_known. record {
       opened = [];
       given = [];
       count = omega arith;
@@ -66,7 +66,7 @@ module _ (s : Space) (axioms : IsSpace s) (old : Shelf) (live : Live) (q : List 
       hits_are = refl;
       tags_are = refl;
     };
-    gives = λ nodes tells sound holds on. record { hits_are = refl; tags_are = refl; stands = on };
+    gives = λ nodes is_known sound holds on. record { hits_are = refl; tags_are = refl; stands = on };
   }
 
   module _ (now : Shelf) (g o : ℕ) (xs : List Subtree) (cs : List Candidate) (hits : List Hit) (tags : List ℕ) (way : IsUnderWay s old now start (stage live q g o xs cs) hits tags) where
@@ -90,54 +90,54 @@ module _ (s : Space) (axioms : IsSpace s) (old : Shelf) (live : Live) (q : List 
       there : IsIn x xs
       there = in-permutation_back xs (x ∷ rest) x popped (inl refl)
 
-      pub reached : IsTrue old.tells → IsReachedFrom (nodes_of old.read) start x.page
-      reached tells = way.reached tells x there
+      pub reached : IsTrue old.is_known → IsReachedFrom (nodes_of old.read) start x.page
+      reached is_known = way.reached is_known x there
 
       module _ (new : Shelf) (cs' : List Candidate) (xs' : List Subtree) (done : IsOpened s q now x.page cs cs' rest xs') (kept : HoldsSame now new) (asked : new.asked ≡ next_count now.asked)
           (reads : new.reads ≤ now.reads + 1) (low : o < live.pages) where
-        told : IsTrue old.tells → nodes_of old.read x.page ≡ Some done.node
-        told tells = ap (λ (r : Read). node_or_none (r x.page)) (sym way.same.read) ∙ ap node_or_none (done.is.told (rw way.same.tells tells))
+        told : IsTrue old.is_known → nodes_of old.read x.page ≡ Some done.node
+        told is_known = ap (λ (r : Read). node_or_none (r x.page)) (sym way.same.read) ∙ ap node_or_none (done.is.told (rw way.same.is_known is_known))
 
-        reached_after : IsTrue old.tells → (y : Subtree) → IsIn y xs' → IsReachedFrom (nodes_of old.read) start y.page
-        reached_after tells y k =
+        reached_after : IsTrue old.is_known → (y : Subtree) → IsIn y xs' → IsReachedFrom (nodes_of old.read) start y.page
+        reached_after is_known y k =
             elim (in-append (map (subtree_of s q) (inner_entries (Some done.node))) rest y (in-permutation_back (map (subtree_of s q) (inner_entries (Some done.node)) ++ rest) xs' y done.subtrees k)) [
-              | inl fresh ↦ (let e = in-map (subtree_of s q) (inner_entries (Some done.node)) y fresh in let r = reached tells in (
+              | inl fresh ↦ (let e = in-map (subtree_of s q) (inner_entries (Some done.node)) y fresh in let r = reached is_known in (
                 r.0,
                 r.1,
                 subst (λ (z : Subtree). IsReached (nodes_of old.read) r.0.page z.page) (sym e.2)
-                    (by_child x.page e.0 r.2 (subst (λ (n : Option Node). IsIn e.0 (inner_entries n)) (sym (told tells)) e.1)),
+                    (by_child x.page e.0 r.2 (subst (λ (n : Option Node). IsIn e.0 (inner_entries n)) (sym (told is_known)) e.1)),
               ))
-              | inr before ↦ way.reached tells y (in-permutation_back xs (x ∷ rest) y popped (inr before))
+              | inr before ↦ way.reached is_known y (in-permutation_back xs (x ∷ rest) y popped (inr before))
             ]
 
         room_after : g + length cs' ≤ 32 * (o + 1)
         room_after =
             let r = way.room in let l = length_permutation (map (candidate_of s q) (leaf_entries (Some done.node)) ++ cs) cs' done.candidates in
             let a = length-append (map (candidate_of s q) (leaf_entries (Some done.node))) cs in let m = length_map (candidate_of s q) (leaf_entries (Some done.node)) in
-            let f = objects_few now.dim done.node done.is.lawful in omega arith
+            let f = objects_few now.dim done.node done.is.valid in omega arith
 
-        gives_after : (nodes : Nodes) → IsTrue old.tells → IsSoundTree s nodes live → HoldsTree nodes live old → IsCursorOn s nodes start →
+        gives_after : (nodes : Nodes) → IsTrue old.is_known → IsSoundTree s nodes live → HoldsTree nodes live old → IsCursorOn s nodes start →
             Gives s nodes start (stage live q g (o + 1) xs' cs') hits tags
-        gives_after nodes tells sound holds on =
-            let so_far = way.gives nodes tells sound holds on in
-            let is : nodes x.page ≡ Some done.node = sym (holds x.page (page_there s axioms nodes here q_fits sound so_far.stands x rest popped)) ∙ told tells in
+        gives_after nodes is_known sound holds on =
+            let so_far = way.gives nodes is_known sound holds on in
+            let is : nodes x.page ≡ Some done.node = sym (holds x.page (page_there s axioms nodes here q_fits sound so_far.stands x rest popped)) ∙ told is_known in
             record {
               hits_are = so_far.hits_are;
               tags_are = so_far.tags_are;
               stands = opened_stands s axioms nodes here q_fits sound so_far.stands x rest popped done.node is cs' xs' done.candidates done.subtrees;
             }
 
-        accounted_after : IsTrue old.tells → IsAccounted s (nodes_of old.read) start (stage live q g (o + 1) xs' cs') hits tags
-        accounted_after tells =
-            let so_far = way.accounted tells in record {
+        accounted_after : IsTrue old.is_known → IsAccounted s (nodes_of old.read) start (stage live q g (o + 1) xs' cs') hits tags
+        accounted_after is_known =
+            let so_far = way.accounted is_known in record {
               opened = x ∷ so_far.opened;
               given = so_far.given;
               count = (let n = so_far.count in omega arith);
-              have = ((done.node, told tells), so_far.have);
+              have = ((done.node, told is_known), so_far.have);
               subtrees = account_opened xs0 (subtrees_in s q (nodes_of old.read) x) (flat_map (subtrees_in s q (nodes_of old.read)) so_far.opened) so_far.opened xs rest xs' x so_far.subtrees popped
-                  (subst (λ (n : Option Node). IsPermutation (map (subtree_of s q) (inner_entries n) ++ rest) xs') (sym (told tells)) done.subtrees);
+                  (subst (λ (n : Option Node). IsPermutation (map (subtree_of s q) (inner_entries n) ++ rest) xs') (sym (told is_known)) done.subtrees);
               objects = account_met cs0 (objects_in s q (nodes_of old.read) x) (flat_map (objects_in s q (nodes_of old.read)) so_far.opened) so_far.given cs cs' so_far.objects
-                  (subst (λ (n : Option Node). IsPermutation (map (candidate_of s q) (leaf_entries n) ++ cs) cs') (sym (told tells)) done.candidates);
+                  (subst (λ (n : Option Node). IsPermutation (map (candidate_of s q) (leaf_entries n) ++ cs) cs') (sym (told is_known)) done.candidates);
               hits_are = so_far.hits_are;
               tags_are = so_far.tags_are;
             }
@@ -153,7 +153,7 @@ module _ (s : Space) (axioms : IsSpace s) (old : Shelf) (live : Live) (q : List 
           tagged = way.tagged;
           room = room_after;
           reached = reached_after;
-          walks = λ tells walked. walk_opens (nodes_of old.read) (live.root ∷ []) o xs rest x popped (way.walks tells walked) s q done.node xs' (told tells) done.subtrees;
+          walks = λ is_known walked. walk_opens (nodes_of old.read) (live.root ∷ []) o xs rest x popped (way.walks is_known walked) s q done.node xs' (told is_known) done.subtrees;
           accounted = accounted_after;
           gives = gives_after;
         }
@@ -163,20 +163,20 @@ module _ (s : Space) (axioms : IsSpace s) (old : Shelf) (live : Live) (q : List 
       way_cause new (Bad page fault) cause = (
         cause.1,
         subst (λ (p : ℕ). IsWithin p page) way.same.pages (subst (λ (p : ℕ). IsWithin now.pages p) (sym cause.0) cause.2),
-        λ tells. (
+        λ is_known. (
           subst (λ (p : ℕ). old.read p ≡ Err (Bad page fault)) (sym cause.0)
               (subst (λ (p : ℕ). old.read x.page ≡ Err (Bad p fault)) (sym cause.0)
-              (ap (λ (r : Read). r x.page) (sym way.same.read) ∙ cause.3 (rw way.same.tells tells))),
-          subst (λ (p : ℕ). IsReachedFrom (nodes_of old.read) start p) (sym cause.0) (reached tells),
+              (ap (λ (r : Read). r x.page) (sym way.same.read) ∙ cause.3 (rw way.same.is_known is_known))),
+          subst (λ (p : ℕ). IsReachedFrom (nodes_of old.read) start p) (sym cause.0) (reached is_known),
         ),
       )
       way_cause new (Outside page) cause = (
         subst (λ (p : ℕ). is_within p page ≡ false) way.same.pages (subst (λ (p : ℕ). is_within now.pages p ≡ false) (sym cause.0) cause.1),
-        λ tells. (
+        λ is_known. (
           subst (λ (p : ℕ). old.read p ≡ Err (Outside page)) (sym cause.0)
               (subst (λ (p : ℕ). old.read x.page ≡ Err (Outside p)) (sym cause.0)
-              (ap (λ (r : Read). r x.page) (sym way.same.read) ∙ cause.2 (rw way.same.tells tells))),
-          subst (λ (p : ℕ). IsReachedFrom (nodes_of old.read) start p) (sym cause.0) (reached tells),
+              (ap (λ (r : Read). r x.page) (sym way.same.read) ∙ cause.2 (rw way.same.is_known is_known))),
+          subst (λ (p : ℕ). IsReachedFrom (nodes_of old.read) start p) (sym cause.0) (reached is_known),
         ),
       )
       way_cause new Memory cause = tt
@@ -186,12 +186,12 @@ module _ (s : Space) (axioms : IsSpace s) (old : Shelf) (live : Live) (q : List 
       pub way_repeats : o ≡ live.pages → HasStepCause start old now (Repeats x.page)
       way_repeats all = (
         way.asked ∙ ap (λ (n : ℕ). count_up old.asked (n - o0)) all,
-        λ tells. (reached tells, λ walked. opens_before (nodes_of old.read) (live.root ∷ []) o xs rest x popped (way.walks tells walked) live.pages all),
+        λ is_known. (reached is_known, λ walked. opens_before (nodes_of old.read) (live.root ∷ []) o xs rest x popped (way.walks is_known walked) live.pages all),
       )
 
-      module _ (nodes : Nodes) (tells : IsTrue old.tells) (sound : IsSoundTree s nodes live) (holds : HoldsTree nodes live old) (on : IsCursorOn s nodes start) where
+      module _ (nodes : Nodes) (is_known : IsTrue old.is_known) (sound : IsSoundTree s nodes live) (holds : HoldsTree nodes live old) (on : IsCursorOn s nodes start) where
         so_far : IsCursorOn s nodes here
-        so_far = (way.gives nodes tells sound holds on).stands
+        so_far = (way.gives nodes is_known sound holds on).stands
 
         no_fault : (page : ℕ) (fault : PageFault) → page ≡ x.page → old.read page ≡ Err fault → ⊥
         no_fault page fault same is =
@@ -204,8 +204,8 @@ module _ (s : Space) (axioms : IsSpace s) (old : Shelf) (live : Live) (q : List 
         pub way_passes : (new : Shelf) (fault : PageFault) → HasPageCause now new x.page fault → IsPassing fault
         way_passes new Disk cause = tt
         way_passes new Memory cause = tt
-        way_passes new (Bad page fault) cause = absurd (no_fault page (Bad page fault) cause.0 (((way_cause new (Bad page fault) cause).2 tells).0))
-        way_passes new (Outside page) cause = absurd (no_fault page (Outside page) cause.0 (((way_cause new (Outside page) cause).1 tells).0))
+        way_passes new (Bad page fault) cause = absurd (no_fault page (Bad page fault) cause.0 (((way_cause new (Bad page fault) cause).2 is_known).0))
+        way_passes new (Outside page) cause = absurd (no_fault page (Outside page) cause.0 (((way_cause new (Outside page) cause).1 is_known).0))
         way_passes new (Repeats page) cause = absurd cause
         way_passes new (Level page) cause = absurd cause
 
@@ -221,10 +221,10 @@ module _ (s : Space) (axioms : IsSpace s) (old : Shelf) (live : Live) (q : List 
       fewer : suc (length rest) ≡ length cs
       fewer = length_permutation cs (x ∷ rest) popped
 
-      gives_next : (nodes : Nodes) → IsTrue old.tells → IsSoundTree s nodes live → HoldsTree nodes live old → IsCursorOn s nodes start →
+      gives_next : (nodes : Nodes) → IsTrue old.is_known → IsSoundTree s nodes live → HoldsTree nodes live old → IsCursorOn s nodes start →
           Gives s nodes start (stage live q (g + 1) o xs rest) (hits ++ hit_of x ∷ []) (tags ++ x.tag ∷ [])
-      gives_next nodes tells sound holds on =
-          let so_far = way.gives nodes tells sound holds on in
+      gives_next nodes is_known sound holds on =
+          let so_far = way.gives nodes is_known sound holds on in
           let head = given_first s axioms nodes here sound so_far.stands x rest popped first reach is beyond in
           let all : List Hit = nearest_hits s (points_by_id nodes live) q live.count in
           let next : drop (length hits) (rest_of s nodes start) ≡ hit_of x ∷ head.0 =
@@ -238,9 +238,9 @@ module _ (s : Space) (axioms : IsSpace s) (old : Shelf) (live : Live) (q : List 
             stands = given_stands s axioms nodes here sound so_far.stands x rest popped first reach is beyond;
           }
 
-      accounted_next : IsTrue old.tells → IsAccounted s (nodes_of old.read) start (stage live q (g + 1) o xs rest) (hits ++ hit_of x ∷ []) (tags ++ x.tag ∷ [])
-      accounted_next tells =
-          let so_far = way.accounted tells in record {
+      accounted_next : IsTrue old.is_known → IsAccounted s (nodes_of old.read) start (stage live q (g + 1) o xs rest) (hits ++ hit_of x ∷ []) (tags ++ x.tag ∷ [])
+      accounted_next is_known =
+          let so_far = way.accounted is_known in record {
             opened = so_far.opened;
             given = so_far.given ++ x ∷ [];
             count = so_far.count;
@@ -269,10 +269,10 @@ module _ (s : Space) (axioms : IsSpace s) (old : Shelf) (live : Live) (q : List 
 
     -- ---- the end
 
-    pub way_ends : (n : ℕ) → HasGiven n hits cs xs → (nodes : Nodes) → IsTrue old.tells → IsSoundTree s nodes live → HoldsTree nodes live old → IsCursorOn s nodes start →
+    pub way_ends : (n : ℕ) → HasGiven n hits cs xs → (nodes : Nodes) → IsTrue old.is_known → IsSoundTree s nodes live → HoldsTree nodes live old → IsCursorOn s nodes start →
         GivesNext s nodes start here n hits tags
-    way_ends n given nodes tells sound holds on =
-        let so_far = way.gives nodes tells sound holds on in record {
+    way_ends n given nodes is_known sound holds on =
+        let so_far = way.gives nodes is_known sound holds on in record {
           hits_are = elim given [
             | inl is ↦ so_far.hits_are ∙ ap (λ (k : ℕ). take k (rest_of s nodes start)) is
             | inr over ↦ so_far.hits_are ∙ take_rest (length hits) n (rest_of s nodes start) (nothing_left so_far.stands over.1 over.2) over.0
@@ -298,25 +298,25 @@ module _ (s : Space) (axioms : IsSpace s) (old now : Shelf) (live : Live) (q : L
   end_is : stage live q g o xs cs ≡ b
   end_is = (λ i. stage (first i).live (first i).point g o xs cs) ∙ sym last
 
-  pub step_reached : IsTrue old.tells → (x : Subtree) → IsIn x b.subtrees → IsReachedFrom (nodes_of old.read) a x.page
-  step_reached tells x k =
-      subst (λ (c : OpenCursor). IsReachedFrom (nodes_of old.read) c x.page) first (way.reached tells x (subst (λ (c : OpenCursor). IsIn x c.subtrees) (sym end_is) k))
+  pub step_reached : IsTrue old.is_known → (x : Subtree) → IsIn x b.subtrees → IsReachedFrom (nodes_of old.read) a x.page
+  step_reached is_known x k =
+      subst (λ (c : OpenCursor). IsReachedFrom (nodes_of old.read) c x.page) first (way.reached is_known x (subst (λ (c : OpenCursor). IsIn x c.subtrees) (sym end_is) k))
 
-  pub step_walks : IsTrue old.tells → IsWalked (nodes_of old.read) a → IsWalked (nodes_of old.read) b
-  step_walks tells walked = subst (IsWalked (nodes_of old.read)) end_is (way.walks tells (subst (IsWalked (nodes_of old.read)) (sym first) walked))
+  pub step_walks : IsTrue old.is_known → IsWalked (nodes_of old.read) a → IsWalked (nodes_of old.read) b
+  step_walks is_known walked = subst (IsWalked (nodes_of old.read)) end_is (way.walks is_known (subst (IsWalked (nodes_of old.read)) (sym first) walked))
 
-  pub step_accounted : (h : List Hit) (t : List ℕ) → h ≡ hits → t ≡ tags → IsTrue old.tells → IsAccounted s (nodes_of old.read) a b h t
-  step_accounted h t hits_are tags_are tells =
+  pub step_accounted : (h : List Hit) (t : List ℕ) → h ≡ hits → t ≡ tags → IsTrue old.is_known → IsAccounted s (nodes_of old.read) a b h t
+  step_accounted h t hits_are tags_are is_known =
       subst (λ (c : OpenCursor). IsAccounted s (nodes_of old.read) c b h t) first
       (subst (λ (c : OpenCursor). IsAccounted s (nodes_of old.read) (stage live q g0 o0 xs0 cs0) c h t) end_is
       (subst (λ (l : List Hit). IsAccounted s (nodes_of old.read) (stage live q g0 o0 xs0 cs0) (stage live q g o xs cs) l t) (sym hits_are)
-      (subst (λ (l : List ℕ). IsAccounted s (nodes_of old.read) (stage live q g0 o0 xs0 cs0) (stage live q g o xs cs) hits l) (sym tags_are) (way.accounted tells))))
+      (subst (λ (l : List ℕ). IsAccounted s (nodes_of old.read) (stage live q g0 o0 xs0 cs0) (stage live q g o xs cs) hits l) (sym tags_are) (way.accounted is_known))))
 
-  pub step_gives : IsTrue (s.fits a.point) → (n : ℕ) → HasGiven n hits cs xs → (h : List Hit) (t : List ℕ) → h ≡ hits → t ≡ tags → (nodes : Nodes) → IsTrue old.tells → IsSoundTree s nodes a.live →
+  pub step_gives : IsTrue (s.is_point a.point) → (n : ℕ) → HasGiven n hits cs xs → (h : List Hit) (t : List ℕ) → h ≡ hits → t ≡ tags → (nodes : Nodes) → IsTrue old.is_known → IsSoundTree s nodes a.live →
       HoldsTree nodes a.live old → IsCursorOn s nodes a → GivesNext s nodes a b n h t
-  step_gives fits n given h t hits_are tags_are nodes tells sound holds on =
+  step_gives is_point n given h t hits_are tags_are nodes is_known sound holds on =
       let given_next : GivesNext s nodes (stage live q g0 o0 xs0 cs0) (stage live q g o xs cs) n hits tags =
-      way_ends s axioms old live q (subst (λ (c : OpenCursor). IsTrue (s.fits c.point)) (sym first) fits) g0 o0 xs0 cs0 now g o xs cs hits tags way n given nodes tells
+      way_ends s axioms old live q (subst (λ (c : OpenCursor). IsTrue (s.is_point c.point)) (sym first) is_point) g0 o0 xs0 cs0 now g o xs cs hits tags way n given nodes is_known
       (subst (λ (c : OpenCursor). IsSoundTree s nodes c.live) (sym first) sound) (subst (λ (c : OpenCursor). HoldsTree nodes c.live old) (sym first) holds) (subst (IsCursorOn s nodes) (sym first) on) in
       subst (λ (c : OpenCursor). GivesNext s nodes c b n h t) first
       (subst (λ (c : OpenCursor). GivesNext s nodes (stage live q g0 o0 xs0 cs0) c n h t) end_is

@@ -31,12 +31,12 @@ abbrev pub HasStepCause : OpenCursor → Shelf → Shelf → PageFault → Type 
 HasStepCause c old new Disk = Rose old.faults new.faults
 HasStepCause c old new Memory = Unit {0}
 HasStepCause c old new (Bad page fault) =
-    (fault ≢ NodeMemory) × IsWithin old.pages page × (IsTrue old.tells → (old.read page ≡ Err (Bad page fault)) × IsReachedFrom (nodes_of old.read) c page)
+    (fault ≢ NodeMemory) × IsWithin old.pages page × (IsTrue old.is_known → (old.read page ≡ Err (Bad page fault)) × IsReachedFrom (nodes_of old.read) c page)
 HasStepCause c old new (Outside page) =
-    (is_within old.pages page ≡ false) × (IsTrue old.tells → (old.read page ≡ Err (Outside page)) × IsReachedFrom (nodes_of old.read) c page)
+    (is_within old.pages page ≡ false) × (IsTrue old.is_known → (old.read page ≡ Err (Outside page)) × IsReachedFrom (nodes_of old.read) c page)
 HasStepCause c old new (Repeats page) =
     (new.asked ≡ count_up old.asked (c.live.pages - c.opened))
-    × (IsTrue old.tells → IsReachedFrom (nodes_of old.read) c page
+    × (IsTrue old.is_known → IsReachedFrom (nodes_of old.read) c page
     × (IsWalked (nodes_of old.read) c → OpensBefore (nodes_of old.read) (c.live.root ∷ []) c.live.pages page))
 HasStepCause c old new (Level page) = ⊥
 
@@ -87,10 +87,10 @@ pub record IsUnderWay (s : Space) (old now : Shelf) (start c : OpenCursor) (hits
   pub given : c.given ≡ start.given + length hits
   pub tagged : length tags ≡ length hits
   pub room : c.given + length c.candidates ≤ 32 * c.opened
-  pub reached : IsTrue old.tells → (x : Subtree) → IsIn x c.subtrees → IsReachedFrom (nodes_of old.read) start x.page
-  pub walks : IsTrue old.tells → IsWalked (nodes_of old.read) start → IsWalked (nodes_of old.read) c
-  pub accounted : IsTrue old.tells → IsAccounted s (nodes_of old.read) start c hits tags
-  pub gives : (nodes : Nodes) → IsTrue old.tells → IsSoundTree s nodes start.live → HoldsTree nodes start.live old → IsCursorOn s nodes start →
+  pub reached : IsTrue old.is_known → (x : Subtree) → IsIn x c.subtrees → IsReachedFrom (nodes_of old.read) start x.page
+  pub walks : IsTrue old.is_known → IsWalked (nodes_of old.read) start → IsWalked (nodes_of old.read) c
+  pub accounted : IsTrue old.is_known → IsAccounted s (nodes_of old.read) start c hits tags
+  pub gives : (nodes : Nodes) → IsTrue old.is_known → IsSoundTree s nodes start.live → HoldsTree nodes start.live old → IsCursorOn s nodes start →
       Gives s nodes start c hits tags
 
 -- a cursor with these parts

@@ -61,7 +61,7 @@ impl Cursor {
     pub fn open(alloc: Global, live: Live, q: Point) -> Result<Self, Memory>
         ensures begun { IfOk result (λ c. c ≡ begun live q) }
         ensures starts { IfOk result (λ c. (s : Space) (nodes : Nodes) → IsSpace s → IsSoundTree s nodes live →
-            IsTrue (s.fits q) → IsCursorOn s nodes c) }
+            IsTrue (s.is_point q) → IsCursorOn s nodes c) }
     {
         let mut subtrees = Subtrees::new(alloc);
         subtrees.add(Subtree {
@@ -114,7 +114,7 @@ impl Cursor {
         ruler: &mut R,
         n: u64,
     ) -> Result<Stepped, PageFault>
-        requires point { IsTrue ((R.M.space (R.metric ruler.old)).fits self.old.point) }
+        requires point { IsTrue ((R.M.space (R.metric ruler.old)).is_point self.old.point) }
         requires some { 1 ≤ n }
         ensures metric { R.metric ruler.new ≡ R.metric ruler.old }
         ensures same { HoldsSame (P.shelf pages.old) (P.shelf pages.new) }
@@ -127,24 +127,24 @@ impl Cursor {
         ensures each { IfOk result (λ stepped. length stepped.tags ≡ length stepped.hits) }
         ensures unchanged { OnErr result (self.new ≡ self.old) }
         // On the tree of a sound file that the pages still hold, the hits are the scan's next hits, with their tags.
-        ensures gives { IfOk result (λ stepped. (nodes : Nodes) → IsTrue (P.shelf pages.old).tells →
+        ensures gives { IfOk result (λ stepped. (nodes : Nodes) → IsTrue (P.shelf pages.old).is_known →
             IsSoundTree (R.M.space (R.metric ruler.old)) nodes self.old.live → HoldsTree nodes self.old.live (P.shelf pages.old) →
             IsCursorOn (R.M.space (R.metric ruler.old)) nodes self.old →
             GivesNext (R.M.space (R.metric ruler.old)) nodes self.old self.new n stepped.hits stepped.tags) }
-        ensures sound { IfErr result (λ fault. (nodes : Nodes) → IsTrue (P.shelf pages.old).tells →
+        ensures sound { IfErr result (λ fault. (nodes : Nodes) → IsTrue (P.shelf pages.old).is_known →
             IsSoundTree (R.M.space (R.metric ruler.old)) nodes self.old.live → HoldsTree nodes self.old.live (P.shelf pages.old) →
             IsCursorOn (R.M.space (R.metric ruler.old)) nodes self.old → IsPassing fault) }
         ensures cause { IfErr result (HasStepCause self.old (P.shelf pages.old) (P.shelf pages.new)) }
         // On any tree it gives as many hits as are wanted, or all; and what was opened, met and given adds up.
         ensures ends { IfOk result (λ stepped. HasGiven n stepped.hits self.new.candidates self.new.subtrees) }
-        ensures accounted { IfOk result (λ stepped. IsTrue (P.shelf pages.old).tells →
+        ensures accounted { IfOk result (λ stepped. IsTrue (P.shelf pages.old).is_known →
             IsAccounted (R.M.space (R.metric ruler.old)) (nodes_of (P.shelf pages.old).read) self.old self.new stepped.hits
             stepped.tags) }
         // What waits is reached from what waited.
-        ensures reached { IfOk result (λ _. IsTrue (P.shelf pages.old).tells → (x : Subtree) → IsIn x self.new.subtrees →
+        ensures reached { IfOk result (λ _. IsTrue (P.shelf pages.old).is_known → (x : Subtree) → IsIn x self.new.subtrees →
             IsReachedFrom (nodes_of (P.shelf pages.old).read) self.old x.page) }
         // A cursor that is a walk by child numbers stays one.
-        ensures walks { IfOk result (λ _. IsTrue (P.shelf pages.old).tells →
+        ensures walks { IfOk result (λ _. IsTrue (P.shelf pages.old).is_known →
             IsWalked (nodes_of (P.shelf pages.old).read) self.old → IsWalked (nodes_of (P.shelf pages.old).read) self.new) }
         // Each opened node is asked for once. Over all successful steps at most as many are opened as the file has pages.
         ensures opened { IfOk result (λ _. (self.old.opened ≤ self.new.opened) × (self.new.opened ≤ self.old.live.pages)) }

@@ -36,7 +36,7 @@ pub fn advance<P: Pages, R: Ruler>(
     goal: Goal,
     walk: &mut Walk,
 ) -> Result<(), PageFault>
-    requires point { IsTrue ((R.M.space (R.metric ruler.old)).fits goal.q.now) }
+    requires point { IsTrue ((R.M.space (R.metric ruler.old)).is_point goal.q.now) }
     requires hits { walk.old.hits.items ≡ [] }
     requires tags { walk.old.tags.items ≡ [] }
     requires few { walk.old.opened ≤ live.now.pages }
@@ -55,7 +55,7 @@ pub fn advance<P: Pages, R: Ruler>(
     ensures cause { IfErr result
         (HasStepCause (stage live.now goal.entry.q.now walk.old.given walk.old.opened walk.old.subtrees walk.old.candidates)
         (P.shelf pages.old) (P.shelf pages.new)) }
-    ensures sound { IfErr result (λ fault. (nodes : Nodes) → IsTrue (P.shelf pages.old).tells →
+    ensures sound { IfErr result (λ fault. (nodes : Nodes) → IsTrue (P.shelf pages.old).is_known →
         IsSoundTree (R.M.space (R.metric ruler.old)) nodes live.now → HoldsTree nodes live.now (P.shelf pages.old) →
         IsCursorOn (R.M.space (R.metric ruler.old)) nodes
         (stage live.now goal.entry.q.now walk.old.given walk.old.opened walk.old.subtrees walk.old.candidates) →

@@ -11,7 +11,7 @@ state_of list = with_cursors (record { points = list.rows.points; tags = list.ta
 
 -- a list of points of a space, no more than the limit, each with a tag
 pub record IsListOf (s : Space) (limit : ℕ) (list : PlainList) : Type 0 where
-  pub words : list.rows.words ≡ s.words
-  pub points : All (λ p. IsTrue (s.fits p)) list.rows.points
+  pub dimension : list.rows.dimension ≡ s.dimension
+  pub points : All (λ p. IsTrue (s.is_point p)) list.rows.points
   pub few : length list.rows.points ≤ limit
   pub tagged : length list.tags.items ≡ length list.rows.points

@@ -33,13 +33,13 @@ fn ids(alloc: Global, count: usize) -> Result<Vec<u64>, Memory>
 }
 
 impl PlainList {
-    /// Makes an empty list of points of `words` coordinates.
-    pub fn new(alloc: Global, words: usize) -> Self
+    /// Makes an empty list of points of `dimension` coordinates.
+    pub fn new(alloc: Global, dimension: usize) -> Self
         ensures state { state_of result ≡ nothing_yet }
-        ensures words { result.rows.words ≡ words }
+        ensures dimension { result.rows.dimension ≡ dimension }
     {
         PlainList {
-            rows: Rows::new(alloc, words),
+            rows: Rows::new(alloc, dimension),
             tags: Vec::new(alloc),
             cursors: Cursors::new(alloc),
         }
@@ -47,13 +47,13 @@ impl PlainList {
 
     // Adds one object.
     fn insert(&mut self, limit: u32, p: &[u32], tag: u64) -> Result<Reply, Memory>
-        requires words { length p.now ≡ self.old.rows.words }
+        requires dimension { length p.now ≡ self.old.rows.dimension }
         requires limit { length self.old.rows.points ≤ limit }
         ensures ok { IfOk result (λ reply. insert_step limit (state_of self.old) p.now tag
             ≡ record { reply = reply; state = state_of self.new }) }
         ensures tagged { IfOk result TagsAre }
         ensures err { OnErr result (state_of self.new ≡ state_of self.old) }
-        ensures words { self.new.rows.words ≡ self.old.rows.words }
+        ensures dimension { self.new.rows.dimension ≡ self.old.rows.dimension }
     {
         let id = self.rows.len();
         if id >= limit as usize {
@@ -67,10 +67,10 @@ impl PlainList {
 
     // Fills the empty list.
     fn load(&mut self, limit: u32, rows: Rows, tags: Vec<u64>) -> Reply
-        requires { rows.words ≡ self.old.rows.words }
+        requires { rows.dimension ≡ self.old.rows.dimension }
         ensures step { load_step limit (state_of self.old) rows.points tags.items ≡ record { reply = result; state = state_of self.new } }
         ensures tagged { TagsAre result }
-        ensures words { self.new.rows.words ≡ self.old.rows.words }
+        ensures dimension { self.new.rows.dimension ≡ self.old.rows.dimension }
     {
         if !self.rows.is_empty() {
             return Reply::Refused(Refusal::NotEmpty);
@@ -111,8 +111,8 @@ impl PlainList {
     // (`rows`, `tags`); what an error leaves (`err`).
     fn open<M: Metric>(&mut self, alloc: Global, metric: &M, q: &[u32]) -> Result<Reply, Memory>
         requires few { length self.old.rows.points < 2 ^ 32 }
-        requires points { All (λ p. IsTrue ((M.space metric.now).fits p)) self.old.rows.points }
-        requires query { IsTrue ((M.space metric.now).fits q.now) }
+        requires points { All (λ p. IsTrue ((M.space metric.now).is_point p)) self.old.rows.points }
+        requires query { IsTrue ((M.space metric.now).is_point q.now) }
         requires numbers { self.old.cursors.next + 1 < 2 ^ 32 }
         ensures ok { IfOk result (λ reply. cursor_step (M.space metric.now) (state_of self.old) q.now
             ≡ record { reply = reply; state = state_of self.new }) }
@@ -142,7 +142,7 @@ impl PlainList {
         requires list { IsListOf (M.space metric.now) limit self.old }
         requires limit { limit < 2 ^ 32 - 1 }
         requires numbers { self.old.cursors.next + 1 < 2 ^ 32 }
-        requires readable { IsReadable (M.space metric.now).words command }
+        requires readable { IsReadable (M.space metric.now).dimension command }
         requires points { IsTrue (has_points_of (M.space metric.now) command) }
         ensures ok { IfOk result (λ reply.
             execute (record { space = M.space metric.now; limit = limit }) (state_of self.old) command ≡ record {
@@ -194,7 +194,7 @@ impl PlainList {
         requires list { IsListOf (M.space metric.now) limit self.old }
         requires limit { limit < 2 ^ 32 - 1 }
         requires numbers { self.old.cursors.next + 1 < 2 ^ 32 }
-        requires readable { IsReadable (M.space metric.now).words command }
+        requires readable { IsReadable (M.space metric.now).dimension command }
         ensures ok { IfOk result (λ reply. step (record { space = M.space metric.now; limit = limit }) (state_of self.old) command
             ≡ record { reply = reply; state = state_of self.new }) }
         ensures tagged { IfOk result TagsAre }

@@ -7,10 +7,10 @@ use rows_text::Command;
 
 // Returns whether each row is a point of the metric's space.
 pub fn all_fit<M: Metric>(metric: &M, rows: &Rows) -> bool
-    ensures { result ≡ list_all (M.space metric.now).fits rows.now.points }
+    ensures { result ≡ list_all (M.space metric.now).is_point rows.now.points }
 {
     for i in 0..rows.len() {
-        if !metric.fits(rows.point(i)) {
+        if !metric.is_point(rows.point(i)) {
             return false;
         }
     }
@@ -22,9 +22,9 @@ pub fn has_points_of<M: Metric>(metric: &M, command: &Command) -> bool
     ensures { result ≡ has_points_of (M.space metric.now) command.now }
 {
     match command {
-        Command::Insert(p) | Command::Cursor(p) => metric.fits(p.as_slice()),
-        Command::TagInsert { p, .. } => metric.fits(p.as_slice()),
-        Command::Range { q, .. } | Command::Nearest { q, .. } => metric.fits(q.as_slice()),
+        Command::Insert(p) | Command::Cursor(p) => metric.is_point(p.as_slice()),
+        Command::TagInsert { p, .. } => metric.is_point(p.as_slice()),
+        Command::Range { q, .. } | Command::Nearest { q, .. } => metric.is_point(q.as_slice()),
         Command::Load(rows) | Command::TagLoad { rows, .. } => all_fit(metric, rows),
         Command::Count | Command::Bad(_) | Command::Next { .. } | Command::Close(_) => true,
     }

@@ -64,7 +64,7 @@ fn answer<M: Metric, K: Sink>(
     requires list { IsListOf (M.space scan.now.metric) scan.now.limit list.old }
     requires limit { scan.now.limit < 2 ^ 32 - 1 }
     requires numbers { list.old.cursors.next + 1 < 2 ^ 32 }
-    requires readable { IsReadable (M.space scan.now.metric).words command }
+    requires readable { IsReadable (M.space scan.now.metric).dimension command }
     ensures puts { Puts (K.state out.old).written (K.state out.new).written
         (text scan.now.show_tags (step (record { space = M.space scan.now.metric; limit = scan.now.limit })
         (state_of list.old) command).reply) result }
@@ -94,7 +94,7 @@ pub fn run_script<M: Metric, K: Sink>(
 ) -> Result<(), ScanStop>
     requires limit { scan.now.limit < 2 ^ 32 - 1 }
     requires few { length commands.items < 2 ^ 32 }
-    requires readable { All (IsReadable (M.space scan.now.metric).words) commands.items }
+    requires readable { All (IsReadable (M.space scan.now.metric).dimension) commands.items }
     ensures wrote { Writes (K.state out.old).written (K.state out.new).written
         (reply_texts (record { space = M.space scan.now.metric; limit = scan.now.limit }) scan.now.show_tags commands.items)
         result }
@@ -103,7 +103,7 @@ pub fn run_script<M: Metric, K: Sink>(
     ensures later { (K.state out.old).faults ≤ (K.state out.new).faults }
     ensures rose { IsErrOf result ScanStop.Sink → Rose (K.state out.old).faults (K.state out.new).faults }
 {
-    let mut list = PlainList::new(alloc, scan.metric.words());
+    let mut list = PlainList::new(alloc, scan.metric.dimension());
     for command in commands {
         answer(alloc, scan, &mut list, command, out)?;
     }

@@ -165,7 +165,7 @@ impl Disk for PlanDisk<'_> {
     ghost places_mix = { λ plan. places_mix (simulated plan) };
 
     fn size(&mut self) -> Result<u64, Failed>
-        ensures size { IfOk result (λ n. IsTrue (plan_state self.old).tells → n ≡ length (plan_state self.old).bytes) }
+        ensures size { IfOk result (λ n. IsTrue (plan_state self.old).is_known → n ≡ length (plan_state self.old).bytes) }
         ensures same { IsUnchanged (plan_state self.old) (plan_state self.new) }
         ensures reads { (plan_state self.new).reads ≡ (plan_state self.old).reads }
         ensures cause { HasCause (plan_state self.old).faults (plan_state self.new).faults result }
@@ -177,7 +177,7 @@ impl Disk for PlanDisk<'_> {
 
     fn read_at(&mut self, at: u64, buf: &mut [u8]) -> Result<(), Failed>
         requires { at + length buf.old ≤ 2 ^ 37 }
-        ensures read { OnOk result (IsTrue (plan_state self.old).tells
+        ensures read { OnOk result (IsTrue (plan_state self.old).is_known
             → (i : ℕ) → i < length buf.old → slice_index buf.new i ≡ slice_index (plan_state self.old).bytes (at + i)) }
         ensures same { IsUnchanged (plan_state self.old) (plan_state self.new) }
         ensures reads { (plan_state self.new).reads ≤ (plan_state self.old).reads + 1 }
@@ -194,15 +194,15 @@ impl Disk for PlanDisk<'_> {
 
     /// Adds a write to the plan. A write that fails is not added.
     /// Clauses: what is asked of the caller (the one without a name); what is left on the disk (`written`, `others`); what a crash may
-    /// leave (`torn`, `time`); what stays (`tells`); the cost (`reads`); when it fails (`refused`); the cause of an error (`cause`); the
+    /// leave (`torn`, `time`); what stays (`is_known`); the cost (`reads`); when it fails (`refused`); the cause of an error (`cause`); the
     /// whole new state (`next`).
     fn write_at(&mut self, at: u64, bytes: &[u8]) -> Result<(), Failed>
         requires { at + length bytes.now ≤ 2 ^ 37 }
-        ensures written { OnOk result (IsTrue (plan_state self.old).tells
+        ensures written { OnOk result (IsTrue (plan_state self.old).is_known
             → Written at bytes.now (plan_state self.old).bytes (plan_state self.new).bytes) }
-        ensures others { IsTrue (plan_state self.old).tells
+        ensures others { IsTrue (plan_state self.old).is_known
             → Torn at (length bytes.now) (plan_state self.old).bytes (plan_state self.new).bytes }
-        ensures tells { (plan_state self.new).tells ≡ (plan_state self.old).tells }
+        ensures is_known { (plan_state self.new).is_known ≡ (plan_state self.old).is_known }
         ensures torn { Follows (Torn at (length bytes.now)) (plan_state self.old) (plan_state self.new) }
         ensures time { IsOneCall (plan_state self.old) (plan_state self.new) }
         ensures reads { (plan_state self.new).reads ≡ (plan_state self.old).reads }
@@ -227,7 +227,7 @@ impl Disk for PlanDisk<'_> {
     fn sync(&mut self) -> Result<(), Failed>
         ensures durable { OnOk result (LeavesOnly (plan_state self.new) (plan_state self.old).bytes) }
         ensures bytes { (plan_state self.new).bytes ≡ (plan_state self.old).bytes }
-        ensures tells { (plan_state self.new).tells ≡ (plan_state self.old).tells }
+        ensures is_known { (plan_state self.new).is_known ≡ (plan_state self.old).is_known }
         ensures fewer { (image : List ℕ) → MayLeave (plan_state self.new) image → MayLeave (plan_state self.old) image }
         ensures time { IsOneCall (plan_state self.old) (plan_state self.new) }
         ensures reads { (plan_state self.new).reads ≡ (plan_state self.old).reads }

@@ -129,7 +129,7 @@ half_more {E} set on ds sides z i e es all old new whole low low' next is before
 
 -- counts of distances, one after another
 pub counted_more : (i n a b c : ℕ) → HasCounted (i * n) a b → HasCounted n b c → HasCounted ((i + 1) * n) a c
-counted_more i n a b c before after fits =
+counted_more i n a b c before after is_point =
     let e : (i + 1) * n ≡ i * n + n = grind arith in
     let one = before (omega (arith, e)) in
     let two = after (omega (arith, e, one)) in

@@ -8,7 +8,7 @@ use Rattle.scan_model.specs.declared.query.Query.{Query}
 use Rattle.scan_model.specs.declared.query.Query.TheVariants.{Range, Nearest}
 use Rattle.log_model.specs.declared.logs.Log.{Log}
 use Rattle.log_model.specs.declared.logs.JoinLog.{JoinLog}
-use Rattle.log_model.specs.Grammar.{IsLawfulPoint, IsLawfulQuery, IsLawfulLog, IsLawfulJoinLog}
+use Rattle.log_model.specs.Grammar.{IsValidPoint, IsValidQuery, IsValidLog, IsValidJoinLog}
 use Rattle.prune_log.specs.declared.fault.LogFault.{LogFault}
 use Rattle.prune_log.specs.declared.fault.LogFault.TheVariants as faults
 use Rattle.prune_log.specs.declared.query_log.Asked.{Asked}
@@ -84,7 +84,7 @@ is_both false b e = absurd cc
 
 -- a point that has a spelling
 record IsPoint (q : List ℕ) : Type 0 where
-  lawful : IsLawfulPoint q
+  valid : IsValidPoint q
   coordinates : AllByRecursion (λ x. x < 2 ^ 32) q
 
 point_reader : IsReader IsPoint (listed 1 coordinate_bytes) point_at
@@ -95,9 +95,9 @@ point_reader =
       takes = λ bytes q rest fits e. (
           let took = short.takes bytes q rest fits e in
           let passes = is_both (nat_le 1 (length q)) (nat_le (length q) 64) took.1.passes in
-          (took.0, record { lawful = record { some = leb-true 1 (length q) passes.0; few = leb-true (length q) 64 passes.1 }; coordinates = took.1.each })
+          (took.0, record { valid = record { some = leb-true 1 (length q) passes.0; few = leb-true (length q) 64 passes.1 }; coordinates = took.1.each })
           );
-      again = λ q rest is. short.again q rest (record { passes = point_passes (length q) is.lawful.some is.lawful.few; few = omega (arith, is.lawful.few); each = is.coordinates });
+      again = λ q rest is. short.again q rest (record { passes = point_passes (length q) is.valid.some is.valid.few; few = omega (arith, is.valid.few); each = is.coordinates });
     }
   where
     point_passes : (n : ℕ) → 1 ≤ n → n ≤ 64 → (nat_le 1 n && nat_le n 64) ≡ true
@@ -143,14 +143,14 @@ kind_again (Nearest q k) rest = refl
 
 -- a query of this kind that has a spelling
 record IsQuery (what : Asked) (query : Query) : Type 0 where
-  lawful : IsLawfulQuery query
+  valid : IsValidQuery query
   in_range : QueryInRange query
   kind : kind_bytes query ≡ asked_bytes what
 
 query_is : (what : Asked) (amount : ℕ) (q : List ℕ) → is_amount what amount ≡ true → amount < 2 ^ 64 → IsPoint q → IsQuery what (query_of what amount q)
 unfolding asked_bytes
-query_is asked.Range amount q enough fits is = record { lawful = is.lawful; in_range = record { amount = fits; coordinates = is.coordinates }; kind = refl }
-query_is asked.Nearest amount q enough fits is = record { lawful = (is.lawful, ltb-true 0 amount enough); in_range = record { amount = fits; coordinates = is.coordinates }; kind = refl }
+query_is asked.Range amount q enough fits is = record { valid = is.valid; in_range = record { amount = fits; coordinates = is.coordinates }; kind = refl }
+query_is asked.Nearest amount q enough fits is = record { valid = (is.valid, ltb-true 0 amount enough); in_range = record { amount = fits; coordinates = is.coordinates }; kind = refl }
 
 query_spelled : (what : Asked) (amount : ℕ) (q : List ℕ) → big_bytes 8 amount ++ listed 1 coordinate_bytes q ≡ query_bytes (query_of what amount q)
 query_spelled asked.Range amount q = refl
@@ -172,14 +172,14 @@ query_takes what bytes query rest fits e =
     subst (λ (y : Query × List ℕ). Takes bytes (query_bytes y.0) y.1 × IsQuery what y.0) (ok_is (made, point.0.1) (query, rest) point.2)
     (spelled, query_is what amount.0.0 point.0.0 enough.0 took_amount.1 took_point.1)
 
-query_again : (query : Query) (rest : List ℕ) → IsLawfulQuery query → QueryInRange query → query_at (asked_for query) (query_bytes query ++ rest) ≡ Ok (query, rest)
+query_again : (query : Query) (rest : List ℕ) → IsValidQuery query → QueryInRange query → query_at (asked_for query) (query_bytes query ++ rest) ≡ Ok (query, rest)
 unfolding query_at asked_for
-query_again (Range q r) rest lawful range =
+query_again (Range q r) rest valid range =
     ap (query_at asked.Range) (append_assoc (big_bytes 8 r) (listed 1 coordinate_bytes q) rest)
-    ∙ rw ((number_reader 8 (2 ^ 64) wide64).again r (listed 1 coordinate_bytes q ++ rest) range.amount, point_reader.again q rest (record { lawful = lawful; coordinates = range.coordinates })) refl
-query_again (Nearest q k) rest lawful range =
+    ∙ rw ((number_reader 8 (2 ^ 64) wide64).again r (listed 1 coordinate_bytes q ++ rest) range.amount, point_reader.again q rest (record { valid = valid; coordinates = range.coordinates })) refl
+query_again (Nearest q k) rest valid range =
     ap (query_at asked.Nearest) (append_assoc (big_bytes 8 k) (listed 1 coordinate_bytes q) rest)
-    ∙ rw ((number_reader 8 (2 ^ 64) wide64).again k (listed 1 coordinate_bytes q ++ rest) range.amount, lt-ltb 0 k lawful.1, point_reader.again q rest (record { lawful = lawful.0; coordinates = range.coordinates })) refl
+    ∙ rw ((number_reader 8 (2 ^ 64) wide64).again k (listed 1 coordinate_bytes q ++ rest) range.amount, lt-ltb 0 k valid.1, point_reader.again q rest (record { valid = valid.0; coordinates = range.coordinates })) refl
 
 -- ---- logs
 
@@ -199,7 +199,7 @@ each_both P Q R implies (x ∷ xs) ps qs = (implies x ps.0 qs.0, each_both P Q R
 
 -- a log that has a spelling, with its fields in the ranges of their types
 pub record IsLog (log : Log) : Type 0 where
-  pub lawful : IsLawfulLog log
+  pub valid : IsValidLog log
   pub in_range : LogInRange log
 
 log_takes : (bytes : List ℕ) (x : Log) (rest : List ℕ) → IsBytes bytes → log_at bytes ≡ Ok (x, rest) → Takes bytes (log_bytes x) rest × IsLog x
@@ -226,8 +226,8 @@ log_takes bytes x rest fits e =
     subst (λ (y : Log × List ℕ). Takes bytes (log_bytes y.0) y.1 × IsLog y.0) (ok_is (made, records.0.1) (x, rest) records.2) (
       from_opened,
       record {
-        lawful = record {
-          query = took_query.1.lawful;
+        valid = record {
+          query = took_query.1.valid;
           answers_ascend = hits_ascend answers.0.0 took_answers.1.chain;
           few_answers = took_answers.1.few;
           few_records = took_records.1.few;
@@ -247,7 +247,7 @@ log_again : (x : Log) (rest : List ℕ) → IsLog x → log_at (log_bytes x ++ r
 unfolding log_at
 log_again x rest fits =
     let regrouped : log_bytes x ++ rest ≡ opening_bytes ++ (kind_bytes x.query ++ (tree_bytes x.generation x.root ++ (query_bytes x.query ++ (listed 4 hit_bytes x.answers ++ (listed 4 record_bytes x.records ++ rest))))) = append_assoc (opening_bytes) (kind_bytes x.query ++ (tree_bytes x.generation x.root ++ (query_bytes x.query ++ (listed 4 hit_bytes x.answers ++ (listed 4 record_bytes x.records))))) rest ∙ ap (λ (t : List ℕ). opening_bytes ++ t) (append_assoc (kind_bytes x.query) (tree_bytes x.generation x.root ++ (query_bytes x.query ++ (listed 4 hit_bytes x.answers ++ (listed 4 record_bytes x.records)))) rest ∙ ap (λ (t : List ℕ). kind_bytes x.query ++ t) (append_assoc (tree_bytes x.generation x.root) (query_bytes x.query ++ (listed 4 hit_bytes x.answers ++ (listed 4 record_bytes x.records))) rest ∙ ap (λ (t : List ℕ). tree_bytes x.generation x.root ++ t) (append_assoc (query_bytes x.query) (listed 4 hit_bytes x.answers ++ (listed 4 record_bytes x.records)) rest ∙ ap (λ (t : List ℕ). query_bytes x.query ++ t) (append_assoc (listed 4 hit_bytes x.answers) (listed 4 record_bytes x.records) rest)))) in
-    ap (log_at) regrouped ∙ rw (opening_again (kind_bytes x.query ++ (tree_bytes x.generation x.root ++ (query_bytes x.query ++ (listed 4 hit_bytes x.answers ++ (listed 4 record_bytes x.records ++ rest))))), kind_again x.query (tree_bytes x.generation x.root ++ (query_bytes x.query ++ (listed 4 hit_bytes x.answers ++ (listed 4 record_bytes x.records ++ rest)))), tree_reader.again (x.generation, x.root) (query_bytes x.query ++ (listed 4 hit_bytes x.answers ++ (listed 4 record_bytes x.records ++ rest))) (record { generation = fits.in_range.generation; root = fits.in_range.root }), query_again x.query (listed 4 hit_bytes x.answers ++ (listed 4 record_bytes x.records ++ rest)) fits.lawful.query fits.in_range.query, hits_reader.again x.answers (listed 4 record_bytes x.records ++ rest) (record { few = fits.lawful.few_answers; each = fits.in_range.answers; chain = hits_chain x.answers fits.lawful.answers_ascend }), records_reader.again x.records rest (record { few = fits.lawful.few_records; each = each_both (λ r. r.page < 2 ^ 32) (λ r. length r.marks ≤ 32) IsRecord (λ r page few. record { page = page; few = few }) x.records fits.in_range.pages fits.lawful.few_marks; chain = chain_always None x.records })) refl
+    ap (log_at) regrouped ∙ rw (opening_again (kind_bytes x.query ++ (tree_bytes x.generation x.root ++ (query_bytes x.query ++ (listed 4 hit_bytes x.answers ++ (listed 4 record_bytes x.records ++ rest))))), kind_again x.query (tree_bytes x.generation x.root ++ (query_bytes x.query ++ (listed 4 hit_bytes x.answers ++ (listed 4 record_bytes x.records ++ rest)))), tree_reader.again (x.generation, x.root) (query_bytes x.query ++ (listed 4 hit_bytes x.answers ++ (listed 4 record_bytes x.records ++ rest))) (record { generation = fits.in_range.generation; root = fits.in_range.root }), query_again x.query (listed 4 hit_bytes x.answers ++ (listed 4 record_bytes x.records ++ rest)) fits.valid.query fits.in_range.query, hits_reader.again x.answers (listed 4 record_bytes x.records ++ rest) (record { few = fits.valid.few_answers; each = fits.in_range.answers; chain = hits_chain x.answers fits.valid.answers_ascend }), records_reader.again x.records rest (record { few = fits.valid.few_records; each = each_both (λ r. r.page < 2 ^ 32) (λ r. length r.marks ≤ 32) IsRecord (λ r page few. record { page = page; few = few }) x.records fits.in_range.pages fits.valid.few_marks; chain = chain_always None x.records })) refl
 
 pub log_reader : IsReader IsLog log_bytes log_at
 log_reader = record { takes = log_takes; again = log_again }
@@ -306,7 +306,7 @@ trees_reader = record { takes = trees_takes; again = trees_again }
 
 -- a join's log that has a spelling, with its fields in the ranges of their types
 pub record IsJoinLog (log : JoinLog) : Type 0 where
-  pub lawful : IsLawfulJoinLog log
+  pub valid : IsValidJoinLog log
   pub in_range : JoinLogInRange log
 
 join_log_takes : (bytes : List ℕ) (x : JoinLog) (rest : List ℕ) → IsBytes bytes → join_log_at bytes ≡ Ok (x, rest) → Takes bytes (join_log_bytes x) rest × IsJoinLog x
@@ -330,7 +330,7 @@ join_log_takes bytes x rest fits e =
     subst (λ (y : JoinLog × List ℕ). Takes bytes (join_log_bytes y.0) y.1 × IsJoinLog y.0) (ok_is (made, records.0.1) (x, rest) records.2) (
       from_opened,
       record {
-        lawful = record {
+        valid = record {
           answers_ascend = pairs_ascend answers.0.0 took_answers.1.chain;
           few_answers = took_answers.1.few;
           few_records = took_records.1.few;
@@ -352,7 +352,7 @@ join_log_again : (x : JoinLog) (rest : List ℕ) → IsJoinLog x → join_log_at
 unfolding join_log_at
 join_log_again x rest fits =
     let regrouped : join_log_bytes x ++ rest ≡ join_opening_bytes ++ (trees_bytes x.left x.right ++ (big_bytes 8 x.r ++ (listed 8 pair_bytes x.answers ++ (listed 8 join_record_bytes x.records ++ rest)))) = append_assoc (join_opening_bytes) (trees_bytes x.left x.right ++ (big_bytes 8 x.r ++ (listed 8 pair_bytes x.answers ++ (listed 8 join_record_bytes x.records)))) rest ∙ ap (λ (t : List ℕ). join_opening_bytes ++ t) (append_assoc (trees_bytes x.left x.right) (big_bytes 8 x.r ++ (listed 8 pair_bytes x.answers ++ (listed 8 join_record_bytes x.records))) rest ∙ ap (λ (t : List ℕ). trees_bytes x.left x.right ++ t) (append_assoc (big_bytes 8 x.r) (listed 8 pair_bytes x.answers ++ (listed 8 join_record_bytes x.records)) rest ∙ ap (λ (t : List ℕ). big_bytes 8 x.r ++ t) (append_assoc (listed 8 pair_bytes x.answers) (listed 8 join_record_bytes x.records) rest))) in
-    ap (join_log_at) regrouped ∙ rw (join_opening_again (trees_bytes x.left x.right ++ (big_bytes 8 x.r ++ (listed 8 pair_bytes x.answers ++ (listed 8 join_record_bytes x.records ++ rest)))), trees_reader.again (x.left, x.right) (big_bytes 8 x.r ++ (listed 8 pair_bytes x.answers ++ (listed 8 join_record_bytes x.records ++ rest))) (record { left = record { generation = fits.in_range.left_generation; root = fits.in_range.left_root }; right = record { generation = fits.in_range.right_generation; root = fits.in_range.right_root } }), (number_reader 8 (2 ^ 64) wide64).again x.r (listed 8 pair_bytes x.answers ++ (listed 8 join_record_bytes x.records ++ rest)) fits.in_range.r, pairs_reader.again x.answers (listed 8 join_record_bytes x.records ++ rest) (record { few = fits.lawful.few_answers; each = fits.in_range.answers; chain = pairs_chain x.answers fits.lawful.answers_ascend }), join_records_reader.again x.records rest (record { few = fits.lawful.few_records; each = each_both (λ r. r.page < 2 ^ 32) (λ r. length r.marks ≤ 32) IsJoinRecord (λ r page few. record { page = page; few = few }) x.records fits.in_range.pages fits.lawful.few_marks; chain = chain_always None x.records })) refl
+    ap (join_log_at) regrouped ∙ rw (join_opening_again (trees_bytes x.left x.right ++ (big_bytes 8 x.r ++ (listed 8 pair_bytes x.answers ++ (listed 8 join_record_bytes x.records ++ rest)))), trees_reader.again (x.left, x.right) (big_bytes 8 x.r ++ (listed 8 pair_bytes x.answers ++ (listed 8 join_record_bytes x.records ++ rest))) (record { left = record { generation = fits.in_range.left_generation; root = fits.in_range.left_root }; right = record { generation = fits.in_range.right_generation; root = fits.in_range.right_root } }), (number_reader 8 (2 ^ 64) wide64).again x.r (listed 8 pair_bytes x.answers ++ (listed 8 join_record_bytes x.records ++ rest)) fits.in_range.r, pairs_reader.again x.answers (listed 8 join_record_bytes x.records ++ rest) (record { few = fits.valid.few_answers; each = fits.in_range.answers; chain = pairs_chain x.answers fits.valid.answers_ascend }), join_records_reader.again x.records rest (record { few = fits.valid.few_records; each = each_both (λ r. r.page < 2 ^ 32) (λ r. length r.marks ≤ 32) IsJoinRecord (λ r page few. record { page = page; few = few }) x.records fits.in_range.pages fits.valid.few_marks; chain = chain_always None x.records })) refl
 
 pub join_log_reader : IsReader IsJoinLog join_log_bytes join_log_at
 join_log_reader = record { takes = join_log_takes; again = join_log_again }

@@ -2,20 +2,20 @@
 use Rattle.std.specs.Prelude.{◌≡◌, ◌↔◌, ◌<◌, ◌^◌, ℕ, List, length, None, Ok, All}
 use Rattle.log_model.specs.declared.logs.Log.{Log}
 use Rattle.log_model.specs.declared.logs.JoinLog.{JoinLog}
-use Rattle.log_model.specs.Grammar.{IsLawfulLog, IsLawfulJoinLog}
+use Rattle.log_model.specs.Grammar.{IsValidLog, IsValidJoinLog}
 use Rattle.prune_log.specs.Ranges.{IsBytes, LogInRange, JoinLogInRange}
 use Rattle.prune_log.specs.Spelling.{log_bytes, join_log_bytes, frames_bytes}
 use Rattle.prune_log.specs.Reading.{log_at, join_log_at, frames_at, log_fault, join_log_fault}
 
 -- the bytes spell this log
 pub record SpellsLog (bytes : List ℕ) (log : Log) : Type 0 where
-  pub lawful : IsLawfulLog log
+  pub valid : IsValidLog log
   pub in_range : LogInRange log
   pub spelled : log_bytes log ≡ bytes
 
 -- the bytes spell this join's log
 pub record SpellsJoinLog (bytes : List ℕ) (log : JoinLog) : Type 0 where
-  pub lawful : IsLawfulJoinLog log
+  pub valid : IsValidJoinLog log
   pub in_range : JoinLogInRange log
   pub spelled : join_log_bytes log ≡ bytes
 
@@ -35,7 +35,7 @@ OneJoinLog = (bytes : List ℕ) (log other : JoinLog) → SpellsJoinLog bytes lo
 
 -- the bytes are frames of these logs
 pub record SpellsFrames (bytes : List ℕ) (logs : List Log) : Type 0 where
-  pub lawful : All IsLawfulLog logs
+  pub valid : All IsValidLog logs
   pub in_range : All LogInRange logs
   pub spelled : frames_bytes log_bytes logs ≡ bytes
 
@@ -45,7 +45,7 @@ FramesAreRead = (bytes : List ℕ) (logs : List Log) → IsBytes bytes → lengt
 
 -- the bytes are frames of these joins' logs
 pub record SpellsJoinFrames (bytes : List ℕ) (logs : List JoinLog) : Type 0 where
-  pub lawful : All IsLawfulJoinLog logs
+  pub valid : All IsValidJoinLog logs
   pub in_range : All JoinLogInRange logs
   pub spelled : frames_bytes join_log_bytes logs ≡ bytes
 

@@ -1,6 +1,6 @@
 // Frames: logs one after the other, each preceded by its length.
 ghost use Rattle.std.specs.Prelude.{◌≡◌, ◌++◌, ◌⊎◌, ◌<◌, ◌^◌, ℕ, List, length, All, OnOk, OnErr, IfOk, IfErr, MatchResult, Result, Some};
-ghost use Rattle.log_model.specs.Grammar.{IsLawfulLog, IsLawfulJoinLog};
+ghost use Rattle.log_model.specs.Grammar.{IsValidLog, IsValidJoinLog};
 ghost use Rattle.log_model.specs.declared.logs.Log.{Log};
 ghost use Rattle.log_model.specs.declared.logs.JoinLog.{JoinLog};
 ghost use Rattle.prune_log.specs.declared.fault.LogFault.{LogFault};
@@ -93,10 +93,10 @@ pub fn decode_frames(alloc: Global, bytes: &[u8]) -> Result<Vec<Log>, LogFault>
     // The bytes spell what is read.
     ensures ok { IfOk result (λ logs. frames_bytes log_bytes logs.items ≡ bytes.now) }
     // What is read can be written again.
-    ensures lawful { IfOk result (λ logs. All IsLawfulLog logs.items) }
+    ensures valid { IfOk result (λ logs. All IsValidLog logs.items) }
     ensures in_range { IfOk result (λ logs. All LogInRange logs.items) }
-    // Bytes that spell lawful logs are read as these logs, unless memory runs out.
-    ensures only { (logs : List Log) → All IsLawfulLog logs → All LogInRange logs → frames_bytes log_bytes logs ≡ bytes.now →
+    // Bytes that spell valid logs are read as these logs, unless memory runs out.
+    ensures only { (logs : List Log) → All IsValidLog logs → All LogInRange logs → frames_bytes log_bytes logs ≡ bytes.now →
         MatchResult result (λ read. read.items ≡ logs) (λ fault. fault ≡ LogFault.Memory) }
     ensures fault { IfErr result (λ fault. (fault ≡ LogFault.Memory) ⊎ (frames_fault bytes.now ≡ Some fault)) }
 {
@@ -111,10 +111,10 @@ pub fn decode_join_frames(alloc: Global, bytes: &[u8]) -> Result<Vec<JoinLog>, L
     // The bytes spell what is read.
     ensures ok { IfOk result (λ logs. frames_bytes join_log_bytes logs.items ≡ bytes.now) }
     // What is read can be written again.
-    ensures lawful { IfOk result (λ logs. All IsLawfulJoinLog logs.items) }
+    ensures valid { IfOk result (λ logs. All IsValidJoinLog logs.items) }
     ensures in_range { IfOk result (λ logs. All JoinLogInRange logs.items) }
-    // Bytes that spell lawful logs are read as these logs, unless memory runs out.
-    ensures only { (logs : List JoinLog) → All IsLawfulJoinLog logs → All JoinLogInRange logs →
+    // Bytes that spell valid logs are read as these logs, unless memory runs out.
+    ensures only { (logs : List JoinLog) → All IsValidJoinLog logs → All JoinLogInRange logs →
         frames_bytes join_log_bytes logs ≡ bytes.now →
         MatchResult result (λ read. read.items ≡ logs) (λ fault. fault ≡ LogFault.Memory) }
     ensures fault { IfErr result (λ fault. (fault ≡ LogFault.Memory) ⊎ (join_frames_fault bytes.now ≡ Some fault)) }

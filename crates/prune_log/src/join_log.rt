@@ -1,6 +1,6 @@
 // Reads and writes the log of a join.
 ghost use Rattle.std.specs.Prelude.{◌≡◌, ◌++◌, ◌⊎◌, OnOk, IfOk, IfErr, Ok, Err, Some};
-ghost use Rattle.log_model.specs.Grammar.{IsLawfulJoinLog};
+ghost use Rattle.log_model.specs.Grammar.{IsValidJoinLog};
 ghost use Rattle.log_model.specs.declared.logs.JoinLog.{JoinLog};
 ghost use Rattle.prune_log.specs.Ranges.{JoinLogInRange};
 ghost use Rattle.prune_log.specs.Spelling.{join_opening_bytes, join_log_bytes};
@@ -80,10 +80,10 @@ pub fn decode_join_log(alloc: Global, bytes: &[u8]) -> Result<JoinLog, LogFault>
     // The bytes spell what is read.
     ensures ok { IfOk result (λ log. join_log_bytes log ≡ bytes.now) }
     // What is read can be written again.
-    ensures lawful { IfOk result (λ log. IsLawfulJoinLog log) }
+    ensures valid { IfOk result (λ log. IsValidJoinLog log) }
     ensures in_range { IfOk result (λ log. JoinLogInRange log) }
-    // Bytes that spell a lawful log are read as this log, unless memory runs out.
-    ensures only { (log : JoinLog) → IsLawfulJoinLog log → JoinLogInRange log → join_log_bytes log ≡ bytes.now → (result ≡ Ok log)
+    // Bytes that spell a valid log are read as this log, unless memory runs out.
+    ensures only { (log : JoinLog) → IsValidJoinLog log → JoinLogInRange log → join_log_bytes log ≡ bytes.now → (result ≡ Ok log)
         ⊎ (result ≡ Err LogFault.Memory) }
     ensures fault { IfErr result (λ fault. (fault ≡ LogFault.Memory) ⊎ (join_log_fault bytes.now ≡ Some fault)) }
 {
@@ -101,7 +101,7 @@ fn put_join_opening(out: &mut Vec<u8>) -> Result<(), Memory>
 
 /// Returns the one spelling of a join's log.
 pub fn encode_join_log(alloc: Global, log: &JoinLog) -> Result<Vec<u8>, Memory>
-    requires { IsLawfulJoinLog log.now }
+    requires { IsValidJoinLog log.now }
     ensures { IfOk result (λ bytes. bytes.items ≡ join_log_bytes log.now) }
 {
     let mut out = Vec::new(alloc);

@@ -1,7 +1,7 @@
 // Reads and writes the log of a query.
 ghost use Rattle.std.specs.Prelude.{◌≡◌, ◌++◌, ◌⊎◌, ◌≤◌, length, OnOk, IfOk, IfErr, Ok, Err, Some};
 ghost use Rattle.byteorder.specs.Endian.{big_bytes};
-ghost use Rattle.log_model.specs.Grammar.{IsLawfulLog, IsLawfulQuery};
+ghost use Rattle.log_model.specs.Grammar.{IsValidLog, IsValidQuery};
 ghost use Rattle.log_model.specs.declared.logs.Log.{Log};
 ghost use Rattle.prune_log.specs.Ranges.{LogInRange};
 ghost use Rattle.prune_log.specs.Spelling.{opening_bytes, tree_bytes, kind_bytes, query_bytes, log_bytes, listed, coordinate_bytes};
@@ -163,10 +163,10 @@ pub fn decode_log(alloc: Global, bytes: &[u8]) -> Result<Log, LogFault>
     // The bytes spell what is read.
     ensures ok { IfOk result (λ log. log_bytes log ≡ bytes.now) }
     // What is read can be written again.
-    ensures lawful { IfOk result (λ log. IsLawfulLog log) }
+    ensures valid { IfOk result (λ log. IsValidLog log) }
     ensures in_range { IfOk result (λ log. LogInRange log) }
-    // Bytes that spell a lawful log are read as this log, unless memory runs out.
-    ensures only { (log : Log) → IsLawfulLog log → LogInRange log → log_bytes log ≡ bytes.now →
+    // Bytes that spell a valid log are read as this log, unless memory runs out.
+    ensures only { (log : Log) → IsValidLog log → LogInRange log → log_bytes log ≡ bytes.now →
         (result ≡ Ok log) ⊎ (result ≡ Err LogFault.Memory) }
     ensures fault { IfErr result (λ fault. (fault ≡ LogFault.Memory) ⊎ (log_fault bytes.now ≡ Some fault)) }
 {
@@ -214,7 +214,7 @@ fn put_asked(out: &mut Vec<u8>, amount: u64, point: &[u32]) -> Result<(), Memory
 
 // Appends the radius or k of a query, and its point.
 fn put_query(out: &mut Vec<u8>, query: &Query) -> Result<(), Memory>
-    requires { IsLawfulQuery query.now }
+    requires { IsValidQuery query.now }
     ensures { OnOk result (out.new.items ≡ out.old.items ++ query_bytes query.now) }
 {
     match query {
@@ -225,7 +225,7 @@ fn put_query(out: &mut Vec<u8>, query: &Query) -> Result<(), Memory>
 
 /// Returns the one spelling of a log.
 pub fn encode_log(alloc: Global, log: &Log) -> Result<Vec<u8>, Memory>
-    requires { IsLawfulLog log.now }
+    requires { IsValidLog log.now }
     ensures { IfOk result (λ bytes. bytes.items ≡ log_bytes log.now) }
 {
     let mut out = Vec::new(alloc);

@@ -13,19 +13,19 @@ use Rattle.page_store.specs.Reading.{nodes_of, node_or_none}
 use Rattle.page_store.specs.Shelf.{Shelf, IsPassing}
 use Rattle.log_model.specs.declared.logs.Found.{Found}
 use Rattle.log_model.specs.declared.marks.Record.{Record}
-use Rattle.log_model.specs.Grammar.{IsLawfulQuery}
+use Rattle.log_model.specs.Grammar.{IsValidQuery}
 use Rattle.log_model.specs.Walk.{Search, AreLeast, WalksBy, search_at, root_need}
 use Rattle.log_model.specs.Sound.{IsLeastLog, search_for, selected}
 use Rattle.log_model.specs.Laws.{scan_answers}
-use Rattle.log_model.proofs.Published.{lawful_log, sound_complete, least_sound, reached_inside, walks_whole}
+use Rattle.log_model.proofs.Published.{valid_log, sound_complete, least_sound, reached_inside, walks_whole}
 use Rattle.range_search.specs.Searched.{IsUnderWay, IsFound, Needs, HasWalkCause}
 
 -- a log of the least walk is the least log of a range
-pub range_found : (s : Space) → IsSpace s → (live : Live) (q : List ℕ) (r : ℕ) → IsTrue (s.fits q) → live.pages ≤ 2 ^ 24 → (old new : Shelf) (u v : ℕ) (records : List Record) (hits : List Hit) →
+pub range_found : (s : Space) → IsSpace s → (live : Live) (q : List ℕ) (r : ℕ) → IsTrue (s.is_point q) → live.pages ≤ 2 ^ 24 → (old new : Shelf) (u v : ℕ) (records : List Record) (hits : List Hit) →
     IsUnderWay (search_at s q (min r bound)) old new u v live.root records hits [] → length records ≤ live.pages → (found : Found) →
     found.log.generation ≡ live.generation → found.log.root ≡ live.root → found.log.query ≡ Range q r → found.log.records ≡ records → found.log.answers ≡ selected (Range q r) hits → found.hits ≡ found.log.answers →
     IsFound s live (Range q r) old new u v found
-range_found s axioms live q r fits few old new u v records hits way fewer found generation root query are answers same =
+range_found s axioms live q r is_point few old new u v records hits way fewer found generation root query are answers same =
     let few_hits = way.few_hits in
     record {
       log = record {
@@ -33,19 +33,19 @@ range_found s axioms live q r fits few old new u v records hits way fewer found 
         generation_is = generation;
         root_is = root;
         query_is = query;
-        lawful = lawful_log found.log hits (subst IsLawfulQuery (sym query) (record { some = rw (axioms.long q fits) axioms.some_words; few = rw (axioms.long q fits) axioms.few_words }))
+        valid = valid_log found.log hits (subst IsValidQuery (sym query) (record { some = rw (axioms.long q is_point) axioms.some_words; few = rw (axioms.long q is_point) axioms.few_words }))
             (rw query answers) (omega arith) (rw are (omega arith)) (rw are way.few_marks);
       };
-      least = λ tells. (
+      least = λ is_known. (
         query,
         record {
           generation_is = generation;
           root_is = root;
-          point_fits = rw query fits;
+          point_fits = rw query is_point;
           hits = hits;
           walk = subst (λ (rs : List Record). WalksBy AreLeast (search_for s found.log.query found.log.answers) (nodes_of old.read) (root_need live.root ∷ []) rs hits) (sym are)
               (subst (λ (u : Query). WalksBy AreLeast (search_for s u found.log.answers) (nodes_of old.read) (root_need live.root ∷ []) records hits) (sym query)
-              (walks_whole AreLeast (search_at s q (min r bound)) (nodes_of old.read) (root_need live.root ∷ []) records hits (way.walk tells)));
+              (walks_whole AreLeast (search_at s q (min r bound)) (nodes_of old.read) (root_need live.root ∷ []) records hits (way.walk is_known)));
           answers_are = rw query answers;
         },
       );
@@ -70,18 +70,18 @@ no_node f live old page fault is here sound =
     cc
 
 -- on a sound tree only a passing fault is refused
-pub passes : (f : Search) (live : Live) (old new : Shelf) (fault : PageFault) → HasWalkCause f live old new fault → IsTrue old.tells → IsSoundTree f.space (nodes_of old.read) live → IsPassing fault
-passes f live old new Disk cause tells sound = tt
-passes f live old new Memory cause tells sound = tt
-passes f live old new (Bad page fault) cause tells sound =
-    let why = cause.2 tells in
+pub passes : (f : Search) (live : Live) (old new : Shelf) (fault : PageFault) → HasWalkCause f live old new fault → IsTrue old.is_known → IsSoundTree f.space (nodes_of old.read) live → IsPassing fault
+passes f live old new Disk cause is_known sound = tt
+passes f live old new Memory cause is_known sound = tt
+passes f live old new (Bad page fault) cause is_known sound =
+    let why = cause.2 is_known in
     absurd (no_node f live old page (Bad page fault) why.0 why.1.2 sound)
-passes f live old new (Outside page) cause tells sound =
-    let why = cause.1 tells in
+passes f live old new (Outside page) cause is_known sound =
+    let why = cause.1 is_known in
     absurd (no_node f live old page (Outside page) why.0 why.1.2 sound)
-passes f live old new (Repeats page) cause tells sound =
-    let here = cause.1 tells in
+passes f live old new (Repeats page) cause is_known sound =
+    let here = cause.1 is_known in
     let low = (reached_inside AreLeast f (nodes_of old.read) live sound here.records here.hits here.next here.rest here.walk).0 in
     let all = here.count in
     absurd (omega arith)
-passes f live old new (Level page) cause tells sound = absurd cause
+passes f live old new (Level page) cause is_known sound = absurd cause

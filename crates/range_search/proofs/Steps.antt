@@ -7,7 +7,7 @@ use Rattle.scan_model.specs.declared.hit.Hit.{Hit}
 use Rattle.tree_shape.specs.declared.live.Live.{Live}
 use Rattle.tree_shape.specs.declared.entry.Node.{Node}
 use Rattle.tree_shape.specs.declared.entry.Node.TheVariants.{Leaf, Inner}
-use Rattle.node_page.specs.Nodes.{IsLawfulNode}
+use Rattle.node_page.specs.Nodes.{IsValidNode}
 use Rattle.page_store.specs.declared.pages.PageFault.{PageFault}
 use Rattle.page_store.specs.declared.pages.PageFault.TheVariants.{Disk, Bad, Outside, Memory, Repeats, Level}
 use Rattle.page_store.specs.Reading.{Read, nodes_of, node_or_none, IsWithin, is_within}
@@ -23,20 +23,20 @@ use Rattle.range_search.specs.Searched.{IsUnderWay, Needs, HasWalkCause}
 use Rattle.page_store.proofs.Published.{holds_both, told_then}
 
 -- a node has at most 32 entries
-entries_few : (dim : ℕ) (node : Node) → IsLawfulNode dim node → entry_count node ≤ 32
-entries_few dim (Leaf es) lawful = let few = lawful.0 in omega arith
-entries_few dim (Inner level es) lawful = let few = lawful.3 in omega arith
+entries_few : (dim : ℕ) (node : Node) → IsValidNode dim node → entry_count node ≤ 32
+entries_few dim (Leaf es) valid = let few = valid.0 in omega arith
+entries_few dim (Inner level es) valid = let few = valid.3 in omega arith
 
 step_on : (f : Search) (old now next : Shelf) (u v w root : ℕ) (n : Need) (node : Node) (rs : List Record) (hits : List Hit) (left : List Need) (needs : List Need) →
     IsNodeOf now n.page node → HoldsSame now next → next.asked ≡ next_count now.asked → next.reads ≤ now.reads + 1 → w ≡ count_up v (measured_by (least_marks f n.above node)) →
-    (IsTrue old.tells → ReachesBy AreLeast f (nodes_of old.read) (root_need root ∷ []) (rs ++ record_of f n node ∷ []) (hits ++ hits_of f node (least_marks f n.above node)) needs) →
+    (IsTrue old.is_known → ReachesBy AreLeast f (nodes_of old.read) (root_need root ∷ []) (rs ++ record_of f n node ∷ []) (hits ++ hits_of f node (least_marks f n.above node)) needs) →
     IsUnderWay f old now u v root rs hits left →
     IsUnderWay f old next u w root (rs ++ record_of f n node ∷ []) (hits ++ hits_of f node (least_marks f n.above node)) needs
 step_on f old now next u v w root n node rs hits left needs is same asked reads used walk before =
     let r : Record = record_of f n node in
     let long = length-append rs (r ∷ []) in
     let more = length-append hits (hits_of f node (least_marks f n.above node)) in
-    let entries = entries_few now.dim node is.lawful in
+    let entries = entries_few now.dim node is.valid in
     let few = hits_few f node (least_marks f n.above node) in
     let many = marks_long f n.above node in
     record {
@@ -61,49 +61,49 @@ pub step : (f : Search) (old now next : Shelf) (u v w root : ℕ) (n : Need) (no
 step f old now next u v w root n node one other is same asked reads used takes before =
     rw (takes.records, takes.hits)
     (step_on f old now next u v w root n node one.records.items one.hits.items (n ∷ reverse one.stack.items) (reverse other.stack.items) is same asked reads used
-    (λ tells. subst (λ (ns : List Need). ReachesBy AreLeast f (nodes_of old.read) (root_need root ∷ []) (one.records.items ++ record_of f n node ∷ []) (one.hits.items ++ hits_of f node (least_marks f n.above node)) ns) (sym takes.needs)
+    (λ is_known. subst (λ (ns : List Need). ReachesBy AreLeast f (nodes_of old.read) (root_need root ∷ []) (one.records.items ++ record_of f n node ∷ []) (one.hits.items ++ hits_of f node (least_marks f n.above node)) ns) (sym takes.needs)
     (reaches_more AreLeast f (nodes_of old.read) (root_need root ∷ []) one.records.items one.hits.items n (reverse one.stack.items) node (least_marks f n.above node)
-    (told_then old now n.page node before.holds is tells) refl (before.walk tells)))
+    (told_then old now n.page node before.holds is is_known) refl (before.walk is_known)))
     before)
 
 -- a walk begins
 
 pub begins : (f : Search) (old : Shelf) (u root : ℕ) (rs : List Record) (hits : List Hit) (stack : List Need) → rs ≡ [] → hits ≡ [] → stack ≡ root_need root ∷ [] → IsUnderWay f old old u u root rs hits (reverse stack)
 begins f old u root rs hits stack none no_hits one = rw (none, no_hits, one) (record {
-  holds = record { dim = refl; pages = refl; tells = refl; read = refl; faults = (omega arith) };
+  holds = record { dim = refl; pages = refl; is_known = refl; read = refl; faults = (omega arith) };
   asked = refl;
   reads = omega arith;
   used = refl;
   few_marks = tt;
   few_hits = omega arith;
-  walk = λ tells. (refl, refl);
+  walk = λ is_known. (refl, refl);
 })
 
 -- why a step refuses is why the walk does
 
 module _ (f : Search) (live : Live) (old now next : Shelf) (u v : ℕ) (n : Need) (rest : List Need) (rs : List Record) (hits : List Hit) (way : IsUnderWay f old now u v live.root rs hits (n ∷ rest)) where
-  needs_here : (opened page : ℕ) → n.page ≡ page → length rs ≡ opened → IsTrue old.tells → Needs f (nodes_of old.read) live.root opened page
-  needs_here opened page is count tells = record { records = rs; hits = hits; next = n; rest = rest; walk = way.walk tells; is = is; count = count }
+  needs_here : (opened page : ℕ) → n.page ≡ page → length rs ≡ opened → IsTrue old.is_known → Needs f (nodes_of old.read) live.root opened page
+  needs_here opened page is count is_known = record { records = rs; hits = hits; next = n; rest = rest; walk = way.walk is_known; is = is; count = count }
 
   pub cause_here : (fault : PageFault) → length rs < live.pages → HasPageCause now next n.page fault → HasWalkCause f live old next fault
   cause_here Disk low cause = (let l = way.holds.faults in let c = cause in omega arith)
   cause_here (Bad page fault) low cause = (
     cause.1,
     subst (λ (p : ℕ). IsWithin p page) way.holds.pages (subst (λ (p : ℕ). IsWithin now.pages p) (sym cause.0) cause.2),
-    λ tells. (
+    λ is_known. (
       subst (λ (p : ℕ). old.read p ≡ Err (Bad page fault)) (sym cause.0)
           (subst (λ (p : ℕ). old.read n.page ≡ Err (Bad p fault)) (sym cause.0)
-          (ap (λ (r : Read). r n.page) (sym way.holds.read) ∙ cause.3 (rw way.holds.tells tells))),
-      (length rs, low, needs_here (length rs) page (sym cause.0) refl tells),
+          (ap (λ (r : Read). r n.page) (sym way.holds.read) ∙ cause.3 (rw way.holds.is_known is_known))),
+      (length rs, low, needs_here (length rs) page (sym cause.0) refl is_known),
     ),
   )
   cause_here (Outside page) low cause = (
     subst (λ (p : ℕ). is_within p page ≡ false) way.holds.pages (subst (λ (p : ℕ). is_within now.pages p ≡ false) (sym cause.0) cause.1),
-    λ tells. (
+    λ is_known. (
       subst (λ (p : ℕ). old.read p ≡ Err (Outside page)) (sym cause.0)
           (subst (λ (p : ℕ). old.read n.page ≡ Err (Outside p)) (sym cause.0)
-          (ap (λ (r : Read). r n.page) (sym way.holds.read) ∙ cause.2 (rw way.holds.tells tells))),
-      (length rs, low, needs_here (length rs) page (sym cause.0) refl tells),
+          (ap (λ (r : Read). r n.page) (sym way.holds.read) ∙ cause.2 (rw way.holds.is_known is_known))),
+      (length rs, low, needs_here (length rs) page (sym cause.0) refl is_known),
     ),
   )
   cause_here Memory low cause = tt
@@ -112,7 +112,7 @@ module _ (f : Search) (live : Live) (old now next : Shelf) (u v : ℕ) (n : Need
 
   -- as many pages as there are were opened
   pub repeats_here : length rs ≡ live.pages → HasWalkCause f live old now (Repeats n.page)
-  repeats_here all = (way.asked ∙ ap (count_up old.asked) all, λ tells. needs_here live.pages n.page refl all tells)
+  repeats_here all = (way.asked ∙ ap (count_up old.asked) all, λ is_known. needs_here live.pages n.page refl all is_known)
 
 -- the walk goes on with the same metric
 pub goes_on : (f g : Search) (old now next : Shelf) (u v w root : ℕ) (n : Need) (stack rest left : List Need) (rs rs' : List Record) (hits hits' : List Hit) → g ≡ f → stack ≡ n ∷ rest →

@@ -30,7 +30,7 @@ pub record IsUnderWay (f : Search) (old now : Shelf) (used_old used_now root : �
   pub used : used_now ≡ count_up used_old (measured records)
   pub few_marks : AllByRecursion (λ r. length r.marks ≤ 32) records
   pub few_hits : length hits ≤ 32 * length records
-  pub walk : IsTrue old.tells → ReachesBy AreLeast f (nodes_of old.read) (root_need root ∷ []) records hits left
+  pub walk : IsTrue old.is_known → ReachesBy AreLeast f (nodes_of old.read) (root_need root ∷ []) records hits left
 
 -- the walk with the least marks opens `opened` pages and then needs page `page`
 pub record Needs (f : Search) (nodes : Nodes) (root opened page : ℕ) : Type 0 where
@@ -53,18 +53,18 @@ HasWalkCause f live old new Disk = Rose old.faults new.faults
 HasWalkCause f live old new Memory = Unit {0}
 HasWalkCause f live old new (Bad page fault) =
     (fault ≢ NodeMemory) × IsWithin old.pages page
-    × (IsTrue old.tells → (old.read page ≡ Err (Bad page fault)) × NeedsInside f (nodes_of old.read) live page)
+    × (IsTrue old.is_known → (old.read page ≡ Err (Bad page fault)) × NeedsInside f (nodes_of old.read) live page)
 HasWalkCause f live old new (Outside page) =
-    (is_within old.pages page ≡ false) × (IsTrue old.tells → (old.read page ≡ Err (Outside page)) × NeedsInside f (nodes_of old.read) live page)
+    (is_within old.pages page ≡ false) × (IsTrue old.is_known → (old.read page ≡ Err (Outside page)) × NeedsInside f (nodes_of old.read) live page)
 HasWalkCause f live old new (Repeats page) = (new.asked ≡ count_up old.asked live.pages)
-    × (IsTrue old.tells → Needs f (nodes_of old.read) live.root live.pages page)
+    × (IsTrue old.is_known → Needs f (nodes_of old.read) live.root live.pages page)
 HasWalkCause f live old new (Level page) = ⊥
 
 -- What a range search finds: the least log of the query, where the pages tell what they hold. It asked for one page for each record,
 -- and computed one distance for each entry that isn't marked Skip.
 pub record IsFound (s : Space) (live : Live) (query : Query) (old new : Shelf) (used_old used_new : ℕ) (found : Found) : Type 0 where
   pub log : IsLogOf live query found
-  pub least : IsTrue old.tells → IsLeastLog s (nodes_of old.read) live query found.log
+  pub least : IsTrue old.is_known → IsLeastLog s (nodes_of old.read) live query found.log
   pub few : length found.log.records ≤ live.pages
   pub asked : new.asked ≡ count_up old.asked (length found.log.records)
   pub reads : new.reads ≤ old.reads + length found.log.records

@@ -98,7 +98,7 @@ pub fn range<P: Pages, R: Ruler>(
     q: &[u32],
     r: u64,
 ) -> Result<Found, PageFault>
-    requires point { IsTrue ((R.M.space (R.metric ruler.old)).fits q.now) }
+    requires point { IsTrue ((R.M.space (R.metric ruler.old)).is_point q.now) }
     requires few_pages { live.now.pages ≤ 2 ^ 24 }
     ensures metric { R.metric ruler.new ≡ R.metric ruler.old }
     ensures same { HoldsSame (P.shelf pages.old) (P.shelf pages.new) }
@@ -111,10 +111,10 @@ pub fn range<P: Pages, R: Ruler>(
     // Whatever the result, at most as many pages were asked for, and read, as the file has.
     ensures asked { CountsUpTo (P.shelf pages.old).asked (P.shelf pages.new).asked live.now.pages }
     ensures reads { (P.shelf pages.new).reads ≤ (P.shelf pages.old).reads + live.now.pages }
-    ensures scanned { IfOk result (λ found. IsTrue (P.shelf pages.old).tells →
+    ensures scanned { IfOk result (λ found. IsTrue (P.shelf pages.old).is_known →
         IsSoundTree (R.M.space (R.metric ruler.old)) (nodes_of (P.shelf pages.old).read) live.now →
         found.hits ≡ range_hits (R.M.space (R.metric ruler.old)) (points_by_id (nodes_of (P.shelf pages.old).read) live.now) q.now r) }
-    ensures sound { IfErr result (λ fault. IsTrue (P.shelf pages.old).tells →
+    ensures sound { IfErr result (λ fault. IsTrue (P.shelf pages.old).is_known →
         IsSoundTree (R.M.space (R.metric ruler.old)) (nodes_of (P.shelf pages.old).read) live.now → IsPassing fault) }
 {
     let point = Point::new(alloc, q)?;

@@ -53,13 +53,13 @@ numbers_from first (suc n) = first ∷ numbers_from (first + 1) n
 
 -- whether each point of a command is a point of the space
 abbrev pub has_points_of : Space → Command → Bool
-has_points_of s (command.Insert p) = s.fits p
-has_points_of s (command.TagInsert tag p) = s.fits p
-has_points_of s (command.Load rows) = list_all s.fits rows.points
-has_points_of s (command.TagLoad tags rows) = list_all s.fits rows.points
-has_points_of s (command.Range r q) = s.fits q
-has_points_of s (command.Nearest k q) = s.fits q
-has_points_of s (command.Cursor q) = s.fits q
+has_points_of s (command.Insert p) = s.is_point p
+has_points_of s (command.TagInsert tag p) = s.is_point p
+has_points_of s (command.Load rows) = list_all s.is_point rows.points
+has_points_of s (command.TagLoad tags rows) = list_all s.is_point rows.points
+has_points_of s (command.Range r q) = s.is_point q
+has_points_of s (command.Nearest k q) = s.is_point q
+has_points_of s (command.Cursor q) = s.is_point q
 has_points_of s command.Count = true
 has_points_of s (command.Bad why) = true
 has_points_of s (command.Next cursor n) = true

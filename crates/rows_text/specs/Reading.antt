@@ -32,21 +32,21 @@ with_tagged load more =
 -- the command of an open load, where the records `after` follow
 abbrev pub load_end : OpenLoad → List Fields → Command
 load_end load after =
-    if load.tagged then goes_on (tag_row_of load.words) (with_tagged load) load.bad (length load.rows.points) load.left after
-    else goes_on (row_of load.words) (with_points load) load.bad (length load.rows.points) load.left after
+    if load.tagged then goes_on (tag_row_of load.dimension) (with_tagged load) load.bad (length load.rows.points) load.left after
+    else goes_on (row_of load.dimension) (with_points load) load.bad (length load.rows.points) load.left after
 
 -- a load of n rows with none read yet
-pub record IsNewLoad (words : ℕ) (tagged : Bool) (n : ℕ) (load : OpenLoad) : Type 0 where
-  pub words_are : load.words ≡ words
+pub record IsNewLoad (dimension : ℕ) (tagged : Bool) (n : ℕ) (load : OpenLoad) : Type 0 where
+  pub words_are : load.dimension ≡ dimension
   pub tagged_is : load.tagged ≡ tagged
   pub left : load.left ≡ n
   pub bad : load.bad ≡ None
   pub tags : load.tags.items ≡ []
-  pub rows : load.rows ≡ record { words = words; points = [] }
+  pub rows : load.rows ≡ record { dimension = dimension; points = [] }
 
 -- what reading a row leaves as it was
 pub record IsSameLoad (old new : OpenLoad) : Type 0 where
-  pub words : new.words ≡ old.words
+  pub dimension : new.dimension ≡ old.dimension
   pub tagged : new.tagged ≡ old.tagged
   pub left : new.left ≡ old.left
   pub bad : new.bad ≡ old.bad
@@ -68,8 +68,8 @@ AddsTagged (Some row) tags rows new found = (found ≡ true) × (new.tags.items 
 -- the row of a record is held, if it is one
 abbrev pub AddsRow : OpenLoad → OpenLoad → Fields → Bool → Type 0
 AddsRow old new fields found =
-    MatchBool old.tagged (AddsTagged (tag_row_of old.words fields) old.tags.items old.rows new found)
-    (AddsPoint (row_of old.words fields) old.tags.items old.rows new found)
+    MatchBool old.tagged (AddsTagged (tag_row_of old.dimension fields) old.tags.items old.rows new found)
+    (AddsPoint (row_of old.dimension fields) old.tags.items old.rows new found)
 
 -- one record of a load more is read
 pub record TakesRecord (old new : OpenLoad) (fields : Fields) : Type 0 where
@@ -78,39 +78,39 @@ pub record TakesRecord (old new : OpenLoad) (fields : Fields) : Type 0 where
 
 -- the commands of a load's record, whose name is left out, and of the records that follow
 abbrev pub load_records : ℕ → Bool → Fields → List Fields → List Command
-load_records words tagged fields after =
-    (if tagged then load_of (tag_row_of words) (load_tagged words) after fields else load_of (row_of words) (load_points words) after fields)
-    ∷ commands_after words (load_uses fields) after
+load_records dimension tagged fields after =
+    (if tagged then load_of (tag_row_of dimension) (load_tagged dimension) after fields else load_of (row_of dimension) (load_points dimension) after fields)
+    ∷ commands_after dimension (load_uses fields) after
 
 -- the commands of an open load and of the records that follow
 abbrev pub load_and_after : ℕ → OpenLoad → List Fields → List Command
-load_and_after words load after = load_end load after ∷ commands_after words load.left after
+load_and_after dimension load after = load_end load after ∷ commands_after dimension load.left after
 
 -- the commands of what a record starts and of the records that follow
 abbrev pub started : ℕ → Start → List Fields → List Command
-started words (start.Single c) after = c ∷ commands_after words 0 after
-started words (start.Load load) after = load_and_after words load after
+started dimension (start.Single c) after = c ∷ commands_after dimension 0 after
+started dimension (start.Load load) after = load_and_after dimension load after
 
 abbrev pub load_or_after : ℕ → Option OpenLoad → List Fields → List Command
-load_or_after words None after = commands_after words 0 after
-load_or_after words (Some load) after = load_and_after words load after
+load_or_after dimension None after = commands_after dimension 0 after
+load_or_after dimension (Some load) after = load_and_after dimension load after
 
 -- the commands of what is read so far and of the records that follow
 abbrev pub commands_with : Reading → List Fields → List Command
-commands_with reading after = reading.commands.items ++ load_or_after reading.words reading.load after
+commands_with reading after = reading.commands.items ++ load_or_after reading.dimension reading.load after
 
 -- one record more is read
 abbrev pub Reads : Reading → Reading → Fields → Type 0
-Reads old new fields = (new.words ≡ old.words) × ((after : List Fields) → commands_with new after ≡ commands_with old (fields ∷ after))
+Reads old new fields = (new.dimension ≡ old.dimension) × ((after : List Fields) → commands_with new after ≡ commands_with old (fields ∷ after))
 
 -- one record of a load more is read
 abbrev pub GoesOn : OpenLoad → Reading → Reading → Fields → Type 0
 GoesOn load old new fields =
-    (new.words ≡ old.words)
-    × ((after : List Fields) → commands_with new after ≡ old.commands.items ++ load_and_after old.words load (fields ∷ after))
+    (new.dimension ≡ old.dimension)
+    × ((after : List Fields) → commands_with new after ≡ old.commands.items ++ load_and_after old.dimension load (fields ∷ after))
 
 -- nothing is read
-pub record IsNewReading (words : ℕ) (reading : Reading) : Type 0 where
-  pub words_are : reading.words ≡ words
+pub record IsNewReading (dimension : ℕ) (reading : Reading) : Type 0 where
+  pub words_are : reading.dimension ≡ dimension
   pub commands : reading.commands.items ≡ []
   pub load : reading.load ≡ None

@@ -16,14 +16,14 @@ with_number make (Some x) = make x
 
 -- `insert,c1,..,cd`
 abbrev pub insert_of : ℕ → Fields → Command
-insert_of words fields =
-    if length fields == words then with_number (λ p. command.Insert p) (coordinates fields) else command.Bad refusal.Dimension
+insert_of dimension fields =
+    if length fields == dimension then with_number (λ p. command.Insert p) (coordinates fields) else command.Bad refusal.Dimension
 
 -- `range,r,c1,..,cd`
 abbrev pub range_of : ℕ → Fields → Command
-range_of words [] = command.Bad refusal.Dimension
-range_of words (radius ∷ fields) =
-    if length fields == words
+range_of dimension [] = command.Bad refusal.Dimension
+range_of dimension (radius ∷ fields) =
+    if length fields == dimension
     then with_number (λ r. with_number (λ q. command.Range r q) (coordinates fields)) (number_below (2 ^ 64) radius)
     else command.Bad refusal.Dimension
 
@@ -32,24 +32,24 @@ abbrev pub nearest_from : ℕ → List ℕ → Command
 nearest_from k q = if k == 0 then command.Bad refusal.Count else command.Nearest k q
 
 abbrev pub nearest_of : ℕ → Fields → Command
-nearest_of words [] = command.Bad refusal.Dimension
-nearest_of words (number ∷ fields) =
-    if length fields == words
+nearest_of dimension [] = command.Bad refusal.Dimension
+nearest_of dimension (number ∷ fields) =
+    if length fields == dimension
     then with_number (λ k. with_number (nearest_from k) (coordinates fields)) (number_below (2 ^ 64) number)
     else command.Bad refusal.Dimension
 
 -- `tinsert,t,c1,..,cd`
 abbrev pub tag_insert_of : ℕ → Fields → Command
-tag_insert_of words [] = command.Bad refusal.Dimension
-tag_insert_of words (tag ∷ fields) =
-    if length fields == words
+tag_insert_of dimension [] = command.Bad refusal.Dimension
+tag_insert_of dimension (tag ∷ fields) =
+    if length fields == dimension
     then with_number (λ t. with_number (λ p. command.TagInsert t p) (coordinates fields)) (number_below (2 ^ 64) tag)
     else command.Bad refusal.Dimension
 
 -- `cursor,c1,..,cd`
 abbrev pub cursor_of : ℕ → Fields → Command
-cursor_of words fields =
-    if length fields == words then with_number (λ q. command.Cursor q) (coordinates fields) else command.Bad refusal.Dimension
+cursor_of dimension fields =
+    if length fields == dimension then with_number (λ q. command.Cursor q) (coordinates fields) else command.Bad refusal.Dimension
 
 -- `next,K,n`
 abbrev pub next_from : ℕ → ℕ → Command
@@ -72,12 +72,12 @@ count_of (field ∷ fields) = command.Bad refusal.Command
 
 -- one row of a load: a point
 abbrev pub row_of : ℕ → Fields → Option (List ℕ)
-row_of words fields = if length fields == words then coordinates fields else None
+row_of dimension fields = if length fields == dimension then coordinates fields else None
 
 -- one row of a tload: a tag and a point
 abbrev pub tag_row_of : ℕ → Fields → Option (ℕ × List ℕ)
-tag_row_of words [] = None
-tag_row_of words (tag ∷ fields) = option_and_then (λ t. option_map (λ p. (t, p)) (row_of words fields)) (number_below (2 ^ 64) tag)
+tag_row_of dimension [] = None
+tag_row_of dimension (tag ∷ fields) = option_and_then (λ t. option_map (λ p. (t, p)) (row_of dimension fields)) (number_below (2 ^ 64) tag)
 
 -- a command, or the refusal of a row
 abbrev pub or_row : Command → Option ℕ → Command
@@ -100,21 +100,21 @@ load_of row make after other = command.Bad refusal.Command
 
 -- a load of points
 abbrev pub load_points : ℕ → List (List ℕ) → Command
-load_points words points = command.Load (record { words = words; points = points })
+load_points dimension points = command.Load (record { dimension = dimension; points = points })
 
 -- a load of tags and points
 abbrev pub load_tagged : ℕ → List (ℕ × List ℕ) → Command
-load_tagged words rows = command.TagLoad (map (λ row. row.0) rows) (record { words = words; points = map (λ row. row.1) rows })
+load_tagged dimension rows = command.TagLoad (map (λ row. row.0) rows) (record { dimension = dimension; points = map (λ row. row.1) rows })
 
 -- the command of a single record: all but the loads
 abbrev pub single_of : ℕ → Fields → Command
-single_of words [] = command.Bad refusal.Command
-single_of words (name ∷ fields) =
-    if bytes_eq name (codes "insert") then insert_of words fields
-    else if bytes_eq name (codes "range") then range_of words fields
-    else if bytes_eq name (codes "nearest") then nearest_of words fields
-    else if bytes_eq name (codes "tinsert") then tag_insert_of words fields
-    else if bytes_eq name (codes "cursor") then cursor_of words fields
+single_of dimension [] = command.Bad refusal.Command
+single_of dimension (name ∷ fields) =
+    if bytes_eq name (codes "insert") then insert_of dimension fields
+    else if bytes_eq name (codes "range") then range_of dimension fields
+    else if bytes_eq name (codes "nearest") then nearest_of dimension fields
+    else if bytes_eq name (codes "tinsert") then tag_insert_of dimension fields
+    else if bytes_eq name (codes "cursor") then cursor_of dimension fields
     else if bytes_eq name (codes "next") then next_of fields
     else if bytes_eq name (codes "close") then close_of fields
     else if bytes_eq name (codes "count") then count_of fields
@@ -122,11 +122,11 @@ single_of words (name ∷ fields) =
 
 -- the command of a record, where the records `after` follow
 abbrev pub command_of : ℕ → Fields → List Fields → Command
-command_of words [] after = single_of words []
-command_of words (name ∷ fields) after =
-    if bytes_eq name (codes "load") then load_of (row_of words) (load_points words) after fields
-    else if bytes_eq name (codes "tload") then load_of (tag_row_of words) (load_tagged words) after fields
-    else single_of words (name ∷ fields)
+command_of dimension [] after = single_of dimension []
+command_of dimension (name ∷ fields) after =
+    if bytes_eq name (codes "load") then load_of (row_of dimension) (load_points dimension) after fields
+    else if bytes_eq name (codes "tload") then load_of (tag_row_of dimension) (load_tagged dimension) after fields
+    else single_of dimension (name ∷ fields)
 
 -- how many of the following records a load uses: as many as it announces, and none where it is refused before
 abbrev pub announced : Option ℕ → ℕ
@@ -144,10 +144,10 @@ rows_used (name ∷ fields) = if bytes_eq name (codes "load") || bytes_eq name (
 
 -- the commands of records, after the first `used` of them
 abbrev pub commands_after : ℕ → ℕ → List Fields → List Command
-commands_after words used [] = []
-commands_after words (suc used) (fields ∷ after) = commands_after words used after
-commands_after words zero (fields ∷ after) = command_of words fields after ∷ commands_after words (rows_used fields) after
+commands_after dimension used [] = []
+commands_after dimension (suc used) (fields ∷ after) = commands_after dimension used after
+commands_after dimension zero (fields ∷ after) = command_of dimension fields after ∷ commands_after dimension (rows_used fields) after
 
 -- the commands of a script
 abbrev pub script : ℕ → List ℕ → List Command
-script words bytes = commands_after words 0 (script_records bytes)
+script dimension bytes = commands_after dimension 0 (script_records bytes)

@@ -12,7 +12,7 @@ use std::alloc::{AllocError, Global};
 #[derive(Drop)]
 pub struct OpenLoad {
     /// The number of coordinates of a point.
-    words: usize,
+    dimension: usize,
     /// Whether a tag stands before each point.
     tagged: bool,
     /// How many rows are still to come.
@@ -21,7 +21,7 @@ pub struct OpenLoad {
     bad: Option<u32>,
     tags: Vec<u64>,
     rows: Rows,
-    ghost as_long: { rows.words ≡ words },
+    ghost as_long: { rows.dimension ≡ dimension },
 }
 
 impl OpenLoad {
@@ -31,16 +31,16 @@ impl OpenLoad {
     ghost use Rattle.rows_text.specs.Reading.{AddsPoint, AddsRow, AddsTagged, IsNewLoad, IsSameLoad, TakesRecord, load_end};
 
     /// Begins a load of `n` rows.
-    pub fn new(alloc: Global, words: usize, tagged: bool, n: u64) -> OpenLoad
-        ensures { IsNewLoad words tagged n result }
+    pub fn new(alloc: Global, dimension: usize, tagged: bool, n: u64) -> OpenLoad
+        ensures { IsNewLoad dimension tagged n result }
     {
         OpenLoad {
-            words,
+            dimension,
             tagged,
             left: n,
             bad: None,
             tags: Vec::new(alloc),
-            rows: Rows::new(alloc, words),
+            rows: Rows::new(alloc, dimension),
         }
     }
 
@@ -53,10 +53,10 @@ impl OpenLoad {
 
     // Adds the point of `row`, if it is one. Returns whether it is.
     fn push_point(&mut self, alloc: Global, row: &ByteRecord) -> Result<bool, Memory>
-        ensures adds { IfOk result (AddsPoint (row_of self.old.words (fields_in row.now)) self.old.tags.items self.old.rows self.new) }
+        ensures adds { IfOk result (AddsPoint (row_of self.old.dimension (fields_in row.now)) self.old.tags.items self.old.rows self.new) }
         ensures same { IsSameLoad self.old self.new }
     {
-        if row.len() != self.words {
+        if row.len() != self.dimension {
             return Ok(false);
         }
         let Some(point) = coordinates_from(alloc, row, 0)? else {
@@ -68,10 +68,11 @@ impl OpenLoad {
 
     // Adds the tag and the point of `row`, if it has both. Returns whether it does.
     fn push_tagged(&mut self, alloc: Global, row: &ByteRecord) -> Result<bool, Memory>
-        ensures adds { IfOk result (AddsTagged (tag_row_of self.old.words (fields_in row.now)) self.old.tags.items self.old.rows self.new) }
+        ensures adds { IfOk result (AddsTagged (tag_row_of self.old.dimension
+            (fields_in row.now)) self.old.tags.items self.old.rows self.new) }
         ensures same { IsSameLoad self.old self.new }
     {
-        if row.len() == 0 || row.len() - 1 != self.words {
+        if row.len() == 0 || row.len() - 1 != self.dimension {
             return Ok(false);
         }
         let Some(tag) = number(field(row, 0)) else {

@@ -13,9 +13,9 @@ use csv::ByteRecord;
 use std::alloc::Global;
 
 // Returns what `load,n` or `tload,n` starts.
-fn read_load(alloc: Global, words: usize, tagged: bool, row: &ByteRecord) -> Start
+fn read_load(alloc: Global, dimension: usize, tagged: bool, row: &ByteRecord) -> Start
     ensures { (after : List Fields)
-        → started words result after ≡ load_records words tagged (drop 1 (fields_in row.now)) after }
+        → started dimension result after ≡ load_records dimension tagged (drop 1 (fields_in row.now)) after }
 {
     if row.len() != 2 {
         return Start::Single(Command::Bad(Refusal::Command));
@@ -26,35 +26,35 @@ fn read_load(alloc: Global, words: usize, tagged: bool, row: &ByteRecord) -> Sta
     if n == 0 {
         return Start::Single(Command::Bad(Refusal::Count));
     }
-    Start::Load(OpenLoad::new(alloc, words, tagged, n))
+    Start::Load(OpenLoad::new(alloc, dimension, tagged, n))
 }
 
 // Returns what a record starts.
-fn read_start(alloc: Global, words: usize, row: &ByteRecord) -> Result<Start, Memory>
-    requires some { 1 ≤ words }
-    requires few { words ≤ 64 }
+fn read_start(alloc: Global, dimension: usize, row: &ByteRecord) -> Result<Start, Memory>
+    requires some { 1 ≤ dimension }
+    requires few { dimension ≤ 64 }
     ensures { IfOk result (λ start. (after : List Fields)
-        → started words start after ≡ commands_after words 0 (fields_in row.now ∷ after)) }
+        → started dimension start after ≡ commands_after dimension 0 (fields_in row.now ∷ after)) }
 {
     let name = field(row, 0);
     if name == b"load".as_slice() {
-        return Ok(read_load(alloc, words, false, row));
+        return Ok(read_load(alloc, dimension, false, row));
     }
     if name == b"tload".as_slice() {
-        return Ok(read_load(alloc, words, true, row));
+        return Ok(read_load(alloc, dimension, true, row));
     }
-    Ok(Start::Single(read_single(alloc, words, row)?))
+    Ok(Start::Single(read_single(alloc, dimension, row)?))
 }
 
 impl Reading {
-    /// Begins a script of points with `words` coordinates.
-    pub fn new(alloc: Global, words: usize) -> Reading
-        requires some { 1 ≤ words }
-        requires few { words ≤ 64 }
-        ensures { IsNewReading words result }
+    /// Begins a script of points with `dimension` coordinates.
+    pub fn new(alloc: Global, dimension: usize) -> Reading
+        requires some { 1 ≤ dimension }
+        requires few { dimension ≤ 64 }
+        ensures { IsNewReading dimension result }
     {
         Reading {
-            words,
+            dimension,
             commands: Vec::new(alloc),
             load: None,
         }
@@ -65,7 +65,7 @@ impl Reading {
         requires { self.old.load ≡ None }
         ensures { OnOk result (Reads self.old self.new (fields_in row.now)) }
     {
-        match read_start(alloc, self.words, row)? {
+        match read_start(alloc, self.dimension, row)? {
             Start::Single(command) => self.commands.push(command)?,
             Start::Load(load) => self.load = Some(load),
         }

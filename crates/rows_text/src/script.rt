@@ -7,17 +7,17 @@ use crate::{Command, Memory};
 use csv::{ErrorKind, ReaderBuilder};
 use std::alloc::{AllocError, Global};
 
-// Reads the commands of a script over points of `words` coordinates.
-fn read_commands(alloc: Global, bytes: &[u8], words: usize) -> Result<Vec<Command>, Memory>
-    requires some { 1 ≤ words }
-    requires few { words ≤ 64 }
-    ensures { IfOk result (λ commands. commands.items ≡ script words bytes.now) }
+// Reads the commands of a script over points of `dimension` coordinates.
+fn read_commands(alloc: Global, bytes: &[u8], dimension: usize) -> Result<Vec<Command>, Memory>
+    requires some { 1 ≤ dimension }
+    requires few { dimension ≤ 64 }
+    ensures { IfOk result (λ commands. commands.items ≡ script dimension bytes.now) }
 {
     let reader = ReaderBuilder::new()
         .has_headers(false)
         .flexible(true)
         .from_reader(alloc, bytes);
-    let mut reading = Reading::new(alloc, words);
+    let mut reading = Reading::new(alloc, dimension);
     for row in reader.into_byte_records() {
         match row {
             Ok(row) => reading.take(alloc, &row)?,
@@ -31,18 +31,18 @@ fn read_commands(alloc: Global, bytes: &[u8], words: usize) -> Result<Vec<Comman
     reading.finish()
 }
 
-/// Reads the commands of a script over points of `words` coordinates. Only this number of the space matters here: whether a
+/// Reads the commands of a script over points of `dimension` coordinates. Only this number of the space matters here: whether a
 /// point is in the space is checked when its command is executed.
 ///
 /// The records are those of `csv` with commas, double quotes, no header and any number of fields, after one byte
 /// order mark, which is dropped. They are read one at a time, and a load's rows go straight into its table.
-pub fn read_script(alloc: Global, bytes: &[u8], words: usize) -> Result<Vec<Command>, Memory>
-    requires some_words { 1 ≤ words }
-    requires few_words { words ≤ 64 }
+pub fn read_script(alloc: Global, bytes: &[u8], dimension: usize) -> Result<Vec<Command>, Memory>
+    requires some_words { 1 ≤ dimension }
+    requires few_words { dimension ≤ 64 }
     requires few_bytes { length bytes.now < 2 ^ 32 }
-    ensures script { IfOk result (λ commands. commands.items ≡ script words bytes.now) }
-    ensures readable { IfOk result (λ commands. All (IsReadable words) commands.items) }
+    ensures script { IfOk result (λ commands. commands.items ≡ script dimension bytes.now) }
+    ensures readable { IfOk result (λ commands. All (IsReadable dimension) commands.items) }
     ensures few { IfOk result (λ commands. length commands.items < 2 ^ 32) }
 {
-    read_commands(alloc, bytes, words)
+    read_commands(alloc, bytes, dimension)
 }

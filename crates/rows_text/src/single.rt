@@ -9,12 +9,12 @@ use crate::{Command, Memory, Refusal};
 use csv::ByteRecord;
 use std::alloc::Global;
 
-fn read_insert(alloc: Global, words: usize, row: &ByteRecord) -> Result<Command, Memory>
-    requires some { 1 ≤ words }
-    requires few { words ≤ 64 }
-    ensures { IfOk result (λ command. command ≡ insert_of words (drop 1 (fields_in row.now))) }
+fn read_insert(alloc: Global, dimension: usize, row: &ByteRecord) -> Result<Command, Memory>
+    requires some { 1 ≤ dimension }
+    requires few { dimension ≤ 64 }
+    ensures { IfOk result (λ command. command ≡ insert_of dimension (drop 1 (fields_in row.now))) }
 {
-    if row.len() != words + 1 {
+    if row.len() != dimension + 1 {
         return Ok(Command::Bad(Refusal::Dimension));
     }
     Ok(match point_from(alloc, row, 1)? {
@@ -23,11 +23,11 @@ fn read_insert(alloc: Global, words: usize, row: &ByteRecord) -> Result<Command,
     })
 }
 
-fn read_range(alloc: Global, words: usize, row: &ByteRecord) -> Result<Command, Memory>
-    requires { words ≤ 64 }
-    ensures { IfOk result (λ command. command ≡ range_of words (drop 1 (fields_in row.now))) }
+fn read_range(alloc: Global, dimension: usize, row: &ByteRecord) -> Result<Command, Memory>
+    requires { dimension ≤ 64 }
+    ensures { IfOk result (λ command. command ≡ range_of dimension (drop 1 (fields_in row.now))) }
 {
-    if row.len() != words + 2 {
+    if row.len() != dimension + 2 {
         return Ok(Command::Bad(Refusal::Dimension));
     }
     let Some(r) = number(field(row, 1)) else {
@@ -39,11 +39,11 @@ fn read_range(alloc: Global, words: usize, row: &ByteRecord) -> Result<Command, 
     })
 }
 
-fn read_nearest(alloc: Global, words: usize, row: &ByteRecord) -> Result<Command, Memory>
-    requires { words ≤ 64 }
-    ensures { IfOk result (λ command. command ≡ nearest_of words (drop 1 (fields_in row.now))) }
+fn read_nearest(alloc: Global, dimension: usize, row: &ByteRecord) -> Result<Command, Memory>
+    requires { dimension ≤ 64 }
+    ensures { IfOk result (λ command. command ≡ nearest_of dimension (drop 1 (fields_in row.now))) }
 {
-    if row.len() != words + 2 {
+    if row.len() != dimension + 2 {
         return Ok(Command::Bad(Refusal::Dimension));
     }
     let Some(k) = number(field(row, 1)) else {
@@ -56,11 +56,11 @@ fn read_nearest(alloc: Global, words: usize, row: &ByteRecord) -> Result<Command
     })
 }
 
-fn read_tag_insert(alloc: Global, words: usize, row: &ByteRecord) -> Result<Command, Memory>
-    requires { words ≤ 64 }
-    ensures { IfOk result (λ command. command ≡ tag_insert_of words (drop 1 (fields_in row.now))) }
+fn read_tag_insert(alloc: Global, dimension: usize, row: &ByteRecord) -> Result<Command, Memory>
+    requires { dimension ≤ 64 }
+    ensures { IfOk result (λ command. command ≡ tag_insert_of dimension (drop 1 (fields_in row.now))) }
 {
-    if row.len() != words + 2 {
+    if row.len() != dimension + 2 {
         return Ok(Command::Bad(Refusal::Dimension));
     }
     let Some(tag) = number(field(row, 1)) else {
@@ -72,12 +72,12 @@ fn read_tag_insert(alloc: Global, words: usize, row: &ByteRecord) -> Result<Comm
     })
 }
 
-fn read_cursor(alloc: Global, words: usize, row: &ByteRecord) -> Result<Command, Memory>
-    requires some { 1 ≤ words }
-    requires few { words ≤ 64 }
-    ensures { IfOk result (λ command. command ≡ cursor_of words (drop 1 (fields_in row.now))) }
+fn read_cursor(alloc: Global, dimension: usize, row: &ByteRecord) -> Result<Command, Memory>
+    requires some { 1 ≤ dimension }
+    requires few { dimension ≤ 64 }
+    ensures { IfOk result (λ command. command ≡ cursor_of dimension (drop 1 (fields_in row.now))) }
 {
-    if row.len() != words + 1 {
+    if row.len() != dimension + 1 {
         return Ok(Command::Bad(Refusal::Dimension));
     }
     Ok(match point_from(alloc, row, 1)? {
@@ -121,26 +121,26 @@ fn read_count(row: &ByteRecord) -> Command
 }
 
 /// Reads the command of a single record.
-pub fn read_single(alloc: Global, words: usize, row: &ByteRecord) -> Result<Command, Memory>
-    requires some { 1 ≤ words }
-    requires few { words ≤ 64 }
-    ensures { IfOk result (λ command. command ≡ single_of words (fields_in row.now)) }
+pub fn read_single(alloc: Global, dimension: usize, row: &ByteRecord) -> Result<Command, Memory>
+    requires some { 1 ≤ dimension }
+    requires few { dimension ≤ 64 }
+    ensures { IfOk result (λ command. command ≡ single_of dimension (fields_in row.now)) }
 {
     let name = field(row, 0);
     if name == b"insert".as_slice() {
-        return read_insert(alloc, words, row);
+        return read_insert(alloc, dimension, row);
     }
     if name == b"range".as_slice() {
-        return read_range(alloc, words, row);
+        return read_range(alloc, dimension, row);
     }
     if name == b"nearest".as_slice() {
-        return read_nearest(alloc, words, row);
+        return read_nearest(alloc, dimension, row);
     }
     if name == b"tinsert".as_slice() {
-        return read_tag_insert(alloc, words, row);
+        return read_tag_insert(alloc, dimension, row);
     }
     if name == b"cursor".as_slice() {
-        return read_cursor(alloc, words, row);
+        return read_cursor(alloc, dimension, row);
     }
     if name == b"next".as_slice() {
         return Ok(read_next(row));

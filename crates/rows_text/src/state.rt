@@ -16,11 +16,11 @@ pub enum Start {
 #[derive(Drop)]
 pub struct Reading {
     /// The number of coordinates of a point.
-    pub words: usize,
+    pub dimension: usize,
     /// The commands so far.
     pub commands: Vec<Command>,
     /// The load whose rows are being read. It is ended by the first record after its rows.
     pub load: Option<OpenLoad>,
-    ghost some_words: { 1 ≤ words },
-    ghost few_words: { words ≤ 64 },
+    ghost some_words: { 1 ≤ dimension },
+    ghost few_words: { dimension ≤ 64 },
 }

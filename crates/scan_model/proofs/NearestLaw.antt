@@ -41,31 +41,31 @@ front_or_behind Before (suc k) (y ∷ ys) x up within = elim within [
 ]
 
 -- all objects of a space lie within the bound
-all_within : (s : Space) (q : List ℕ) (first : ℕ) (points : List (List ℕ)) → IsSpace s → AllByRecursion (λ p. IsTrue (s.fits p)) points → IsTrue (s.fits q) →
+all_within : (s : Space) (q : List ℕ) (first : ℕ) (points : List (List ℕ)) → IsSpace s → AllByRecursion (λ p. IsTrue (s.is_point p)) points → IsTrue (s.is_point q) →
     AllByRecursion (λ h. is_within bound h ≡ true) (hits_from s q first points)
-all_within s q first [] law fit fits = tt
-all_within s q first (p ∷ points) law fit fits =
-    let low : s.dist p q ≤ bound = law.bounded p q fit.0 fits in
-    (grind (arith, nat_tests, low), all_within s q (first + 1) points law fit.1 fits)
+all_within s q first [] law fit is_point = tt
+all_within s q first (p ∷ points) law fit is_point =
+    let low : s.dist p q ≤ bound = law.bounded p q fit.0 is_point in
+    (grind (arith, nat_tests, low), all_within s q (first + 1) points law fit.1 is_point)
 
 all_length : (s : Space) (q : List ℕ) (first : ℕ) (points : List (List ℕ)) → length (hits_from s q first points) ≡ length points
 all_length s q first [] = refl
 all_length s q first (p ∷ points) = ap suc (all_length s q (first + 1) points)
 
 pub nearest_answers : NearestAnswersAreNearest
-nearest_answers s points q k law fit fits = record {
+nearest_answers s points q k law fit is_point = record {
   count = length-take k (range_hits s points q bound) ∙ ap (min k) many;
   ascend = front_ascends HitBefore k (range_hits s points q bound) (range_answers s points q bound).0;
   objects = objects;
   rest = λ id below. front_or_behind HitBefore k (range_hits s points q bound) (object_hit s points q id) (range_answers s points q bound).0 (object_in id below);
 }
   where
-    all : AllByRecursion (λ p. IsTrue (s.fits p)) points
-    all = recursion_from_All (λ p. IsTrue (s.fits p)) points fit
+    all : AllByRecursion (λ p. IsTrue (s.is_point p)) points
+    all = recursion_from_All (λ p. IsTrue (s.is_point p)) points fit
 
     many : length (range_hits s points q bound) ≡ length points
     many = length_ordered hit_cmp (filter (is_within bound) (hits_from s q 0 points))
-        ∙ ap length (filter_all (is_within bound) (hits_from s q 0 points) (all_within s q 0 points law all fits)) ∙ all_length s q 0 points
+        ∙ ap length (filter_all (is_within bound) (hits_from s q 0 points) (all_within s q 0 points law all is_point)) ∙ all_length s q 0 points
 
     objects : (h : Hit) → IsIn h (take k (range_hits s points q bound)) → (h.id < length points) × (h ≡ object_hit s points q h.id)
     objects h within =
@@ -73,4 +73,4 @@ nearest_answers s points q k law fit fits = record {
         (answer.object, λ i. record { id = h.id; dist = answer.dist i })
 
     object_in : (id : ℕ) → id < length points → IsIn (object_hit s points q id) (range_hits s points q bound)
-    object_in id below = ((range_answers s points q bound).1 (object_hit s points q id)).1 (record { object = below; dist = refl; within = law.bounded (get_or points id []) q (All-get_or (λ p. IsTrue (s.fits p)) points id [] below fit) fits })
+    object_in id below = ((range_answers s points q bound).1 (object_hit s points q id)).1 (record { object = below; dist = refl; within = law.bounded (get_or points id []) q (All-get_or (λ p. IsTrue (s.is_point p)) points id [] below fit) is_point })

@@ -43,7 +43,7 @@ pub record AreNearest (s : Space) (points : List (List ℕ)) (q : List ℕ) (k :
 -- in every metric space
 abbrev pub NearestAnswersAreNearest : Type 0
 NearestAnswersAreNearest =
-    (s : Space) (points : List (List ℕ)) (q : List ℕ) (k : ℕ) → IsSpace s → All (λ p. IsTrue (s.fits p)) points → IsTrue (s.fits q) →
+    (s : Space) (points : List (List ℕ)) (q : List ℕ) (k : ℕ) → IsSpace s → All (λ p. IsTrue (s.is_point p)) points → IsTrue (s.is_point q) →
     AreNearest s points q k (nearest_hits s points q k)
 
 -- by the left id, then by the right

@@ -41,8 +41,8 @@ pub fn scan_join<M: Metric>(
 ) -> Result<Vec<Pair>, Memory>
     requires few_left { length left.now.points < 2 ^ 32 }
     requires few_right { length right.now.points < 2 ^ 32 }
-    requires left_points { All (λ p. IsTrue ((M.space m.now).fits p)) left.now.points }
-    requires right_points { All (λ p. IsTrue ((M.space m.now).fits p)) right.now.points }
+    requires left_points { All (λ p. IsTrue ((M.space m.now).is_point p)) left.now.points }
+    requires right_points { All (λ p. IsTrue ((M.space m.now).is_point p)) right.now.points }
     ensures { IfOk result (λ pairs. pairs.items ≡ join_pairs (M.space m.now) left.now.points right.now.points r) }
 {
     let mut pairs = Vec::new(alloc);

@@ -56,8 +56,8 @@ pub fn scan_range<M: Metric>(
     r: u64,
 ) -> Result<Vec<Hit>, Memory>
     requires few { length rows.now.points < 2 ^ 32 }
-    requires points { All (λ p. IsTrue ((M.space m.now).fits p)) rows.now.points }
-    requires query { IsTrue ((M.space m.now).fits q.now) }
+    requires points { All (λ p. IsTrue ((M.space m.now).is_point p)) rows.now.points }
+    requires query { IsTrue ((M.space m.now).is_point q.now) }
     ensures { IfOk result (λ hits. hits.items ≡ range_hits (M.space m.now) rows.now.points q.now r) }
 {
     let mut hits = hits_within(alloc, m, rows, q, r)?;
@@ -74,8 +74,8 @@ pub fn scan_nearest<M: Metric>(
     k: u64,
 ) -> Result<Vec<Hit>, Memory>
     requires few { length rows.now.points < 2 ^ 32 }
-    requires points { All (λ p. IsTrue ((M.space m.now).fits p)) rows.now.points }
-    requires query { IsTrue ((M.space m.now).fits q.now) }
+    requires points { All (λ p. IsTrue ((M.space m.now).is_point p)) rows.now.points }
+    requires query { IsTrue ((M.space m.now).is_point q.now) }
     ensures { IfOk result (λ hits. hits.items ≡ nearest_hits (M.space m.now) rows.now.points q.now k) }
 {
     let mut hits = hits_within(alloc, m, rows, q, BOUND)?;

@@ -20,7 +20,7 @@ use Rattle.page_store.specs.Reading.{is_within, reading_in, reading, nodes_of, n
 use Rattle.log_model.specs.declared.marks.Record.{Record}
 use Rattle.log_model.specs.declared.marks.Need.{Need}
 use Rattle.log_model.specs.declared.logs.Log.{Log}
-use Rattle.log_model.specs.Grammar.{IsLawfulLog}
+use Rattle.log_model.specs.Grammar.{IsValidLog}
 use Rattle.log_model.specs.Walk.{Search, Rule, AreAllowed, WalksBy, needs_of, root_need}
 use Rattle.log_model.specs.Sound.{IsSoundLog, search_for}
 use Rattle.log_verify.specs.Judged.{log_fault}
@@ -34,7 +34,7 @@ use Rattle.prune_log.proofs.Published.{ok_is, whole_again, IsLog, log_reader}
 use Rattle.seal_log.specs.declared.parts.CarriedPage.{CarriedPage}
 use Rattle.seal_log.specs.declared.parts.Parts.{Parts}
 use Rattle.seal_log.specs.Digests.{levels_over, leaf_digests, root_digest}
-use Rattle.seal_log.specs.Spelling.{may_follow, IsCarriedPage, AreInPlace, AreLawful, carried_bytes}
+use Rattle.seal_log.specs.Spelling.{may_follow, IsCarriedPage, AreInPlace, AreValid, carried_bytes}
 use Rattle.seal_log.specs.Reading.{carried_at}
 use Rattle.seal_log.specs.Carrying.{needed_pages, page_with_path, parts_of, AreNeeded, Carries}
 use Rattle.seal_log.specs.Judged.{carried_file, path_fault, after_reading, parts_fault, CarriedLog, file_of, parts_in, IsCarried, is_carried, missing_from, judged_fault}
@@ -178,7 +178,7 @@ missing-none ps (r ∷ rs) i all = rw all.0 (missing-none ps rs (i + 1) all.1)
 -- a sound file, and the needed pages of a sound log
 record IsCarrying (s : Space) (head : Head) (live : Live) (file : List ℕ) (log : Log) (pages : List ℕ) : Type 0 where
   sound : IsSoundFile s head live file
-  lawful : IsLawfulLog log
+  valid : IsValidLog log
   in_range : LogInRange log
   sound_log : IsSoundLog s (nodes_in head.dim live file) live log
   needed : AreNeeded log pages
@@ -188,7 +188,7 @@ Pages file n pages = map (mk file n) pages
 
 pages-low : (s : Space) (head : Head) (live : Live) (file : List ℕ) (log : Log) (pages : List ℕ) → IsCarrying s head live file log pages → Below live.pages pages
 pages-low s head live file log pages given =
-    pages-within log live.pages pages given.needed (let low = given.sound.opens.lawful.low_pages in omega arith)
+    pages-within log live.pages pages given.needed (let low = given.sound.opens.valid.low_pages in omega arith)
     (each-at live.pages log.records (walk-within AreAllowed (search_for s log.query log.answers) head.dim live.pages file (root_need live.root ∷ []) log.records given.sound_log.hits given.sound_log.walk))
 
 pages-front : (log : Log) (pages : List ℕ) → AreNeeded log pages → Front pages
@@ -203,11 +203,11 @@ pages-front log pages needed =
     before (suc zero) lt a b = b
     before (suc (suc y)) lt a b = absurd (omega arith)
 
-carrying-lawful : (s : Space) (head : Head) (live : Live) (file : List ℕ) (log : Log) (pages : List ℕ) → IsCarrying s head live file log pages → AreLawful (record { pages = live.pages; carried = Pages file live.pages pages })
-carrying-lawful s head live file log pages given =
+carrying-valid : (s : Space) (head : Head) (live : Live) (file : List ℕ) (log : Log) (pages : List ℕ) → IsCarrying s head live file log pages → AreValid (record { pages = live.pages; carried = Pages file live.pages pages })
+carrying-valid s head live file log pages given =
     let low = pages-low s head live file log pages given in
     let few = increasing-few pages live.pages given.needed.ascend low in
-    let high = given.sound.opens.lawful.high_pages in
+    let high = given.sound.opens.valid.high_pages in
     let front = pages-front log pages given.needed in
     let same : length (Pages file live.pages pages) ≡ length pages = length-map pages (mk file live.pages) in
     record {
@@ -223,7 +223,7 @@ carrying-opens : (s : Space) (head : Head) (live : Live) (file : List ℕ) (log 
 carrying-opens s head live file log pages given =
     let n = live.pages in
     let ps = Pages file n pages in
-    let enough = given.sound.opens.lawful.low_pages in
+    let enough = given.sound.opens.valid.low_pages in
     let own = carried-own file n pages in
     let same = λ (page : ℕ) (held : Contains (needed_pages log) page) (lt : page < n). sym (same_page_of file n ps page own (carried-is file n page pages ((given.needed.which page).1 held)) lt) in
     let zeroth : page_of file 0 ≡ page_of (carried_file n ps) 0 = same 0 (0, omega arith, refl) (omega arith) in
@@ -254,7 +254,7 @@ carrying-faultless s head live file log pages given =
     made_faultless (root_digest file live.pages) (record { pages = live.pages; carried = Pages file live.pages pages }) (log_bytes log)
     (carried-paths file live.pages pages (pages-low s head live file log pages given))
     (opens_faultless (carried_file live.pages (Pages file live.pages pages)) live.pages head live (carrying-opens s head live file log pages given) given.sound.version refl)
-    (spelled-faultless (log_bytes log) log (record { lawful = given.lawful; in_range = given.in_range; spelled = refl }))
+    (spelled-faultless (log_bytes log) log (record { valid = given.valid; in_range = given.in_range; spelled = refl }))
 
 abbrev read_ok : Parts × List ℕ → Result (Parts × List ℕ) LogFault
 read_ok x = Ok x
@@ -281,24 +281,24 @@ carrying-judged s head live file log pages c given is count same log-is =
 same-log : (bytes : List ℕ) (log other : Log) → SpellsLog bytes log → SpellsLog bytes other → log ≡ other
 same-log bytes log other one two =
     ok_is log other
-    (sym (whole_again IsLog log_bytes log_at log_reader log (record { lawful = one.lawful; in_range = one.in_range })) ∙ ap (whole log_at) (one.spelled ∙ sym two.spelled)
-    ∙ whole_again IsLog log_bytes log_at log_reader other (record { lawful = two.lawful; in_range = two.in_range }))
+    (sym (whole_again IsLog log_bytes log_at log_reader log (record { valid = one.valid; in_range = one.in_range })) ∙ ap (whole log_at) (one.spelled ∙ sym two.spelled)
+    ∙ whole_again IsLog log_bytes log_at log_reader other (record { valid = two.valid; in_range = two.in_range }))
 
-pub accepted : (s : Space) (head : Head) (live : Live) (file : List ℕ) (log : Log) (bytes : List ℕ) → IsSoundFile s head live file → IsLawfulLog log → LogInRange log → IsSoundLog s (nodes_in head.dim live file) live log
+pub accepted : (s : Space) (head : Head) (live : Live) (file : List ℕ) (log : Log) (bytes : List ℕ) → IsSoundFile s head live file → IsValidLog log → LogInRange log → IsSoundLog s (nodes_in head.dim live file) live log
     → Carries file (leaf_digests file live.pages) log bytes → IsAccepted s (root_digest file live.pages) bytes log
-accepted s head live file log bytes sound lawful range sound_log carries =
+accepted s head live file log bytes sound valid range sound_log carries =
     let n = live.pages in
-    let given : IsCarrying s head live file log carries.pages = record { sound = sound; lawful = lawful; in_range = range; sound_log = sound_log; needed = carries.needed } in
+    let given : IsCarrying s head live file log carries.pages = record { sound = sound; valid = valid; in_range = range; sound_log = sound_log; needed = carries.needed } in
     let parts : Parts = record { pages = n; carried = Pages file n carries.pages } in
     let parts-same : parts_of file (leaf_digests file n) carries.pages ≡ parts = ap (λ (k : ℕ). record { pages = k; carried = Pages file n carries.pages }) (length-leaf_digests file n) in
     let spelled : bytes ≡ carried_bytes parts (log_bytes log) = carries.spelled ∙ ap (λ (p : Parts). carried_bytes p (log_bytes log)) parts-same in
-    let read : carried_at bytes ≡ Ok (parts, log_bytes log) = ap carried_at spelled ∙ carried_again parts (log_bytes log) (carrying-lawful s head live file log carries.pages given) carries.few in
+    let read : carried_at bytes ≡ Ok (parts, log_bytes log) = ap carried_at spelled ∙ carried_again parts (log_bytes log) (carrying-valid s head live file log carries.pages given) carries.few in
     record {
       faultless = ap (after_reading (root_digest file n)) read ∙ carrying-faultless s head live file log carries.pages given;
       judged = λ c root is spells.
           let other : carried_at bytes ≡ Ok (parts_in c, spells.log) = ap carried_at (sym spells.parts_are) ∙ carried_again (parts_in c) spells.log is.parts spells.few in
           let same = both-is (parts_in c) parts spells.log (log_bytes log) (sym other ∙ read) in
-          let log-is : c.log ≡ log = same-log (log_bytes log) c.log log (subst (λ (b : List ℕ). SpellsLog b c.log) same.1 spells.log_is) (record { lawful = lawful; in_range = range; spelled = refl }) in
+          let log-is : c.log ≡ log = same-log (log_bytes log) c.log log (subst (λ (b : List ℕ). SpellsLog b c.log) same.1 spells.log_is) (record { valid = valid; in_range = range; spelled = refl }) in
           (carrying-judged s head live file log carries.pages c given is (ap (λ (p : Parts). p.pages) same.0) (ap (λ (p : Parts). p.carried) same.0) log-is, log-is);
     }
   where

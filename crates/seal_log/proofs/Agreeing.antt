@@ -48,5 +48,5 @@ same_walk f one other named (n ∷ ns) (r ∷ rs) i same =
 
 pub same_verdict : (s : Space) (one other : Read) (live : Live) (log : Log) → SameOn one other log.records → log_fault s one live log ≡ log_fault s other live log
 same_verdict s one other live log same =
-    ap (λ (w : Result (List Hit) Verdict). cond ((log.generation == live.generation) && (log.root == live.root)) (cond (s.fits (query_point log.query)) (after_walk log w) (Some Point)) (Some (OtherState (log.generation, log.root) (live.generation, live.root))))
+    ap (λ (w : Result (List Hit) Verdict). cond ((log.generation == live.generation) && (log.root == live.root)) (cond (s.is_point (query_point log.query)) (after_walk log w) (Some Point)) (Some (OtherState (log.generation, log.root) (live.generation, live.root))))
     (same_walk (search_for s log.query log.answers) one other [] (root_need live.root ∷ []) log.records 0 same)

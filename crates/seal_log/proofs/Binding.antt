@@ -43,10 +43,10 @@ from_pair : (b : Bool) (digest p left right : Digest) → length digest ≡ 32 �
 from_pair true digest p left right size l r same = right_is p digest left right (size ∙ sym r) (behind 1 1 (p ++ digest) (left ++ right) same)
 from_pair false digest p left right size l r same = left_is digest p left right (size ∙ sym l) (behind 1 1 (digest ++ p) (left ++ right) same)
 
-pub message_tells : (level : List Digest) (i : ℕ) (digest p : Digest) → AreDigests level → 2 * (i / 2) + 1 < length level → length digest ≡ 32
+pub message_known : (level : List Digest) (i : ℕ) (digest p : Digest) → AreDigests level → 2 * (i / 2) + 1 < length level → length digest ≡ 32
     → message_at i digest p ≡ pair_message (digest_at level (2 * (i / 2))) (digest_at level (2 * (i / 2) + 1)) → digest ≡ digest_at level i
 unfolding message_at
-message_tells level i digest p digests pair size same =
+message_known level i digest p digests pair size same =
     from_pair (i % 2 == 1) digest p (digest_at level (2 * (i / 2))) (digest_at level (2 * (i / 2) + 1)) size (digests.size (2 * (i / 2)) (omega arith)) (digests.size (2 * (i / 2) + 1) pair) same ∙ digest-own level i
 
 -- ---- up the levels
@@ -109,7 +109,7 @@ pair_bound level above widths i digest p path digests pair size is (inl own) =
   where
     told : (pair_message (digest_at level (2 * (i / 2))) (digest_at level (2 * (i / 2) + 1)) ≡ message_at i digest p) ⊎ Collide (flat_map pair_messages (level ∷ above)) (climb_messages (length level ∷ widths) i digest (p ∷ path))
         → Bound (level ∷ above) (length level ∷ widths) level i digest (p ∷ path)
-    told (inl same) = inl (message_tells level i digest p digests pair size (sym same))
+    told (inl same) = inl (message_known level i digest p digests pair size (sym same))
     told (inr found) = inr found
 pair_bound level above widths i digest p path digests pair size is (inr found) =
     inr (in_next level above (climb_messages widths (i / 2) (sha256 (message_at i digest p)) path) (climb_messages (length level ∷ widths) i digest (p ∷ path))

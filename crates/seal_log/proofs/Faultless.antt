@@ -5,7 +5,7 @@ use Rattle.node_page.specs.declared.head.Head.{Head}
 use Rattle.node_page.specs.Heads.{head_of}
 use Rattle.node_page.specs.Opening.{page_of, OpensTo, live_of}
 use Rattle.log_model.specs.declared.logs.Log.{Log}
-use Rattle.log_model.specs.Grammar.{IsLawfulLog}
+use Rattle.log_model.specs.Grammar.{IsValidLog}
 use Rattle.prune_log.specs.declared.fault.LogFault.{LogFault}
 use Rattle.prune_log.specs.Ranges.{IsBytes}
 use Rattle.prune_log.specs.Spelling.{log_bytes}
@@ -17,7 +17,7 @@ use Rattle.seal_log.specs.declared.faults.ProofFault.{ProofFault}
 use Rattle.seal_log.specs.declared.faults.ProofFault.TheVariants as faults
 use Rattle.seal_log.specs.declared.parts.Parts.{Parts}
 use Rattle.seal_log.specs.Digests.{Digest}
-use Rattle.seal_log.specs.Spelling.{AreLawful, carried_bytes}
+use Rattle.seal_log.specs.Spelling.{AreValid, carried_bytes}
 use Rattle.seal_log.specs.Reading.{carried_at}
 use Rattle.seal_log.specs.Judged.{carried_file, path_fault, first_fault, slots_fault, after_log, parts_fault, after_reading, proof_fault, CarriedLog, parts_in, IsCarried, SpellsCarried}
 use Rattle.seal_log.proofs.Grammar.{carried_take, carried_again}
@@ -35,19 +35,19 @@ log-none log e = told (log_fault log) e
     told (Some f) e = absurd cc
 
 pub spelled-faultless : (bytes : List ℕ) (log : Log) → SpellsLog bytes log → log_fault bytes ≡ None
-spelled-faultless bytes log spells = ap (λ (b : List ℕ). fault_of (whole log_at b)) (sym spells.spelled) ∙ ap fault_of (whole_again IsLog log_bytes log_at log_reader log (record { lawful = spells.lawful; in_range = spells.in_range }))
+spelled-faultless bytes log spells = ap (λ (b : List ℕ). fault_of (whole log_at b)) (sym spells.spelled) ∙ ap fault_of (whole_again IsLog log_bytes log_at log_reader log (record { valid = spells.valid; in_range = spells.in_range }))
 
 pub log-of : (bytes : List ℕ) → IsBytes bytes → log_fault bytes ≡ None → (log : Log) × SpellsLog bytes log
-log-of bytes fits none =
+log-of bytes is_point none =
     let read = no_fault (whole log_at bytes) none in
-    let took = whole_takes IsLog log_bytes log_at log_reader bytes read.0 fits read.1 in
-    (read.0, record { lawful = took.0.lawful; in_range = took.0.in_range; spelled = took.1 })
+    let took = whole_takes IsLog log_bytes log_at log_reader bytes read.0 is_point read.1 in
+    (read.0, record { valid = took.0.valid; in_range = took.0.in_range; spelled = took.1 })
 
 -- ---- the parts
 
 -- what is without a fault, as parts
 pub record Faultless (root : Digest) (parts : Parts) (head : Head) (live : Live) : Type 0 where
-  pub lawful : AreLawful parts
+  pub valid : AreValid parts
   pub paths : path_fault root parts.pages parts.carried ≡ None
   pub opens : OpensTo (carried_file parts.pages parts.carried) head live
   pub version : head.version ≡ 2
@@ -57,13 +57,13 @@ pub record Faultless (root : Digest) (parts : Parts) (head : Head) (live : Live)
 abbrev pub made : Digest → Parts → Head → Live → Log → CarriedLog
 made root parts head live log = record { root = root; carried = parts.carried; head = head; live = live; log = log }
 
-pub made_carried : (root : Digest) (parts : Parts) (head : Head) (live : Live) (log : Log) → Faultless root parts head live → IsLawfulLog log → IsCarried (made root parts head live log)
-made_carried root parts head live log none lawful = record {
-  parts = subst (λ (n : ℕ). AreLawful (record { pages = n; carried = parts.carried })) (sym none.all) none.lawful;
+pub made_carried : (root : Digest) (parts : Parts) (head : Head) (live : Live) (log : Log) → Faultless root parts head live → IsValidLog log → IsCarried (made root parts head live log)
+made_carried root parts head live log none valid = record {
+  parts = subst (λ (n : ℕ). AreValid (record { pages = n; carried = parts.carried })) (sym none.all) none.valid;
   paths = subst (λ (n : ℕ). path_fault root n parts.carried ≡ None) (sym none.all) none.paths;
   opens = subst (λ (n : ℕ). OpensTo (carried_file n parts.carried) head live) (sym none.all) none.opens;
   version = none.version;
-  log = lawful;
+  log = valid;
 }
 
 pub made_parts : (root : Digest) (parts : Parts) (head : Head) (live : Live) (log : Log) → live.pages ≡ parts.pages → parts_in (made root parts head live log) ≡ parts
@@ -86,28 +86,28 @@ pub log-last : (root : Digest) (parts : Parts) (log : List ℕ) (fault : ProofFa
 unfolding parts_fault
 log-last root parts log fault paths slots is = rw (paths, slots, is) refl
 
-faultless-parts : (root : Digest) (parts : Parts) (log : List ℕ) → AreLawful parts → parts_fault root parts log ≡ None
+faultless-parts : (root : Digest) (parts : Parts) (log : List ℕ) → AreValid parts → parts_fault root parts log ≡ None
     → Faultless root parts (head_of (page_of (carried_file parts.pages parts.carried) 0)) (live_of (carried_file parts.pages parts.carried)) × (log_fault log ≡ None)
 unfolding parts_fault
-faultless-parts root parts log lawful none =
+faultless-parts root parts log valid none =
     let file = carried_file parts.pages parts.carried in
     let first = first-none (path_fault root parts.pages parts.carried) (first_fault (slots_fault parts.pages file) (after_log (log_fault log))) none in
     let second = first-none (slots_fault parts.pages file) (after_log (log_fault log)) first.1 in
-    let opens = faultless_opens file parts.pages (omega (arith, length-carried_file parts.pages parts.carried, three parts lawful)) second.0 in
-    (record { lawful = lawful; paths = first.0; opens = opens.0; version = opens.1; all = opens.2 }, log-none log second.1)
+    let opens = faultless_opens file parts.pages (omega (arith, length-carried_file parts.pages parts.carried, three parts valid)) second.0 in
+    (record { valid = valid; paths = first.0; opens = opens.0; version = opens.1; all = opens.2 }, log-none log second.1)
   where
-    three : (parts : Parts) → AreLawful parts → 3 ≤ parts.pages
-    three parts lawful = three-pages parts.pages parts.carried lawful.in_place lawful.some
+    three : (parts : Parts) → AreValid parts → 3 ≤ parts.pages
+    three parts valid = three-pages parts.pages parts.carried valid.in_place valid.some
 
 -- ---- bytes
 
 pub bytes_made : (root : Digest) (bytes : List ℕ) → IsBytes bytes → proof_fault root bytes ≡ None → (c : CarriedLog) × (c.root ≡ root) × IsCarried c × SpellsCarried bytes c
-bytes_made root bytes fits none = told (carried_at bytes) refl none
+bytes_made root bytes is_point none = told (carried_at bytes) refl none
   where
     told : (read : Result (Parts × List ℕ) LogFault) → carried_at bytes ≡ read → after_reading root read ≡ None → (c : CarriedLog) × (c.root ≡ root) × IsCarried c × SpellsCarried bytes c
     told (Err fault) is none = absurd cc
     told (Ok (parts, log)) is none =
-        let took = carried_take bytes parts log fits is in
+        let took = carried_take bytes parts log is_point is in
         let both = faultless-parts root parts log took.0 none in
         let found = log-of log took.2 both.1 in
         let file = carried_file parts.pages parts.carried in
@@ -115,7 +115,7 @@ bytes_made root bytes fits none = told (carried_at bytes) refl none
         let live = live_of file in (
           made root parts head live found.0,
           refl,
-          made_carried root parts head live found.0 both.0 found.1.lawful,
+          made_carried root parts head live found.0 both.0 found.1.valid,
           record { log = log; few = took.1; parts_are = ap (λ (p : Parts). carried_bytes p log) (made_parts root parts head live found.0 both.0.all) ∙ took.3; log_is = found.1 },
         )
 

@@ -28,8 +28,8 @@ behind x xs ys same = cc
 
 -- ---- the root's message
 
-root_tells : (n m : ℕ) (top other : Digest) → n < 2 ^ 32 → m < 2 ^ 32 → root_message n top ≡ root_message m other → (n ≡ m) × (top ≡ other)
-root_tells n m top other n-small m-small same =
+root_known : (n m : ℕ) (top other : Digest) → n < 2 ^ 32 → m < 2 ^ 32 → root_message n top ≡ root_message m other → (n ≡ m) × (top ≡ other)
+root_known n m top other n-small m-small same =
     let rest : big_bytes 4 n ++ top ≡ big_bytes 4 m ++ other = behind 2 (big_bytes 4 n ++ top) (big_bytes 4 m ++ other) same in (
       sym (big_number-reads_back 4 n top n-small) ∙ ap (big_number 4) rest ∙ big_number-reads_back 4 m other m-small,
       sym (drop_at (big_bytes 4 n) top 4 (length-bytes_high_first 4 n)) ∙ ap (drop 4) rest ∙ drop_at (big_bytes 4 m) other 4 (length-bytes_high_first 4 m),
@@ -129,7 +129,7 @@ page_at_top file m n i bytes path (Some top) lt n-small m-small is test =
   where
     told : (root_message m (top_of (levels_over (leaf_digests file m))) ≡ root_message n top) ⊎ Collide (hashed_for file m) (check_messages n i bytes path) → Own file m n i bytes ⊎ Collide (hashed_for file m) (check_messages n i bytes path)
     told (inl one) =
-        let both = root_tells n m top (top_of (levels_over (leaf_digests file m))) n-small m-small (sym one) in
+        let both = root_known n m top (top_of (levels_over (leaf_digests file m))) n-small m-small (sym one) in
         page_at_count file m n i bytes path both.0 lt (is ∙ ap Some both.1)
     told (inr found) = inr found
 

@@ -7,8 +7,8 @@ use Rattle.node_page.specs.declared.head.Head.{Head}
 use Rattle.node_page.specs.declared.head.HeadFault.{HeadFault}
 use Rattle.node_page.specs.declared.head.HeadFault.TheVariants as heads
 use Rattle.node_page.specs.Slots.{SpellsSlot}
-use Rattle.node_page.specs.Heads.{SpellsHead, IsLawfulHead, is_space, head_of, head_fault}
-use Rattle.node_page.specs.Opening.{page_of, is_open, generation_of, slot_of_live, IsLawfulLive, OpensTo, Unopened, after_head, slot_fault, live_of, open_fault}
+use Rattle.node_page.specs.Heads.{SpellsHead, IsValidHead, is_space, head_of, head_fault}
+use Rattle.node_page.specs.Opening.{page_of, is_open, generation_of, slot_of_live, IsValidLive, OpensTo, Unopened, after_head, slot_fault, live_of, open_fault}
 use Rattle.node_page.proofs.Published.{head_is, no_head_fault, opens_by_none, none_by_opens, live_is}
 use Rattle.seal_log.specs.declared.faults.ProofFault.{ProofFault}
 use Rattle.seal_log.specs.declared.faults.ProofFault.TheVariants as faults
@@ -17,17 +17,17 @@ use Rattle.seal_log.specs.Judged as judged
 use Rattle.seal_log.specs.Opened.{IsLiveOf}
 
 -- in a longer file there is room too
-roomy : (limit size more : ℕ) (live : Live) → size ≤ more → IsLawfulLive limit size live → IsLawfulLive limit more live
-roomy limit size more live le lawful = record {
-  low_generation = lawful.low_generation;
-  high_generation = lawful.high_generation;
-  low_root = lawful.low_root;
-  high_root = lawful.high_root;
-  height = lawful.height;
-  count = lawful.count;
-  low_pages = lawful.low_pages;
-  high_pages = lawful.high_pages;
-  room = omega (arith, lawful.room, le);
+roomy : (limit size more : ℕ) (live : Live) → size ≤ more → IsValidLive limit size live → IsValidLive limit more live
+roomy limit size more live le valid = record {
+  low_generation = valid.low_generation;
+  high_generation = valid.high_generation;
+  low_root = valid.low_root;
+  high_root = valid.high_root;
+  height = valid.height;
+  count = valid.count;
+  low_pages = valid.low_pages;
+  high_pages = valid.high_pages;
+  room = omega (arith, valid.room, le);
 }
 
 -- the head and the live slot that the slots' pages spell are what the file opens to
@@ -41,7 +41,7 @@ live_opens file pages head live size some spells (inl first) = (
     side = omega (arith, first.side_is);
     newest = subst (λ (s : ℕ). IsTrue (slice_index (page_of file (1 + (1 - s))) 0 == 165) → generation_of file (1 - s) < live.generation) (sym first.side_is) first.newest;
     spells_slot = subst (λ (s : ℕ). SpellsSlot (page_of file (1 + s)) (slot_of_live live)) (sym first.side_is) first.spells;
-    lawful = roomy head.limit (4096 * pages) (length file) live size first.lawful;
+    valid = roomy head.limit (4096 * pages) (length file) live size first.valid;
   },
   first.all,
 )
@@ -52,22 +52,22 @@ live_opens file pages head live size some spells (inr second) = (
     side = omega (arith, second.side_is);
     newest = subst (λ (s : ℕ). IsTrue (slice_index (page_of file (1 + (1 - s))) 0 == 165) → generation_of file (1 - s) < live.generation) (sym second.side_is) second.newest;
     spells_slot = subst (λ (s : ℕ). SpellsSlot (page_of file (1 + s)) (slot_of_live live)) (sym second.side_is) second.spells;
-    lawful = roomy head.limit (4096 * pages) (length file) live size second.lawful;
+    valid = roomy head.limit (4096 * pages) (length file) live size second.valid;
   },
   second.all,
 )
 
--- a lawful slot that counts `pages` pages is lawful in a file of `pages` pages
-enough : (limit size pages : ℕ) (live : Live) → live.pages ≡ pages → IsLawfulLive limit size live → IsLawfulLive limit (4096 * pages) live
-enough limit size pages live all lawful = record {
-  low_generation = lawful.low_generation;
-  high_generation = lawful.high_generation;
-  low_root = lawful.low_root;
-  high_root = lawful.high_root;
-  height = lawful.height;
-  count = lawful.count;
-  low_pages = lawful.low_pages;
-  high_pages = lawful.high_pages;
+-- a valid slot that counts `pages` pages is valid in a file of `pages` pages
+enough : (limit size pages : ℕ) (live : Live) → live.pages ≡ pages → IsValidLive limit size live → IsValidLive limit (4096 * pages) live
+enough limit size pages live all valid = record {
+  low_generation = valid.low_generation;
+  high_generation = valid.high_generation;
+  low_root = valid.low_root;
+  high_root = valid.high_root;
+  height = valid.height;
+  count = valid.count;
+  low_pages = valid.low_pages;
+  high_pages = valid.high_pages;
   room = omega (arith, all);
 }
 
@@ -80,14 +80,14 @@ opens_live file pages head live opens all = by_side live.side refl opens.side
       side_is = is;
       newest = subst (λ (s : ℕ). IsTrue (slice_index (page_of file (1 + (1 - s))) 0 == 165) → generation_of file (1 - s) < live.generation) is opens.newest;
       spells = subst (λ (s : ℕ). SpellsSlot (page_of file (1 + s)) (slot_of_live live)) is opens.spells_slot;
-      lawful = enough head.limit (length file) pages live all opens.lawful;
+      valid = enough head.limit (length file) pages live all opens.valid;
       all = all;
     })
     by_side (suc zero) is few = inr (record {
       side_is = is;
       newest = subst (λ (s : ℕ). IsTrue (slice_index (page_of file (1 + (1 - s))) 0 == 165) → generation_of file (1 - s) < live.generation) is opens.newest;
       spells = subst (λ (s : ℕ). SpellsSlot (page_of file (1 + s)) (slot_of_live live)) is opens.spells_slot;
-      lawful = enough head.limit (length file) pages live all opens.lawful;
+      valid = enough head.limit (length file) pages live all opens.valid;
       all = all;
     })
     by_side (suc (suc s)) is few = absurd (omega arith)
@@ -202,9 +202,9 @@ five true true false d e is = absurd cc
 five true false c d e is = absurd cc
 five false b c d e is = absurd cc
 
--- a lawful head has 1 to 64 coordinates
-pub lawful-dim : (head : Head) → IsLawfulHead head → (1 ≤ head.dim) × (head.dim ≤ 64)
+-- a valid head has 1 to 64 coordinates
+pub valid-dim : (head : Head) → IsValidHead head → (1 ≤ head.dim) × (head.dim ≤ 64)
 unfolding is_space
-lawful-dim head lawful =
-    let both = five (nat_le 1 head.kind) (nat_le head.kind 8) (nat_le 1 head.dim) (nat_le head.dim 64) (not ((head.kind == 6) || (head.kind == 7)) || (head.dim % 2 == 0)) lawful.space in
+valid-dim head valid =
+    let both = five (nat_le 1 head.kind) (nat_le head.kind 8) (nat_le 1 head.dim) (nat_le head.dim 64) (not ((head.kind == 6) || (head.kind == 7)) || (head.dim % 2 == 0)) valid.space in
     (leb-true 1 head.dim both.0, leb-true head.dim 64 both.1)

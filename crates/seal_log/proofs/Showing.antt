@@ -135,7 +135,7 @@ opens_too c file is own room =
     (live_opens file c.live.pages c.head c.live room (omega (arith, enough 2)) (subst (λ (p : List ℕ). SpellsHead p c.head) zeroth is.opens.spells_head) here).0
   where
     enough : (page : ℕ) → page < 3 → page < c.live.pages
-    enough page few = let low = is.opens.lawful.low_pages in omega arith
+    enough page few = let low = is.opens.valid.low_pages in omega arith
 
 -- ---- the answers
 
@@ -144,7 +144,7 @@ shows_own : (s : Space) (c : CarriedLog) (file : List ℕ) (head : Head) (live :
 unfolding judged_fault
 shows_own s c file head live space is none sound count own =
     let both = first-none (missing_from c.carried c.log.records 0) (after_verdict (log_fault s (reading c.head.dim c.live.pages (file_of c)) c.live c.log)) none in
-    let opens = opens_too c file is own (omega (arith, sound.opens.lawful.room, count)) in
+    let opens = opens_too c file is own (omega (arith, sound.opens.valid.room, count)) in
     let head-is : c.head ≡ head = sym (head_is (page_of file 0) c.head opens.spells_head) ∙ head_is (page_of file 0) head sound.opens.spells_head in
     let live-is : c.live ≡ live = sym (live_is file c.head c.live opens) ∙ live_is file head live sound.opens in
     let same = same_records c.head.dim c.live.pages file c.carried c.log.records own (none-missing c.carried c.log.records 0 both.0) in
@@ -158,7 +158,7 @@ unfolding hashed_in
 shows s c space is none file head live sound root =
     let below = pages-below c.live.pages None c.carried is.parts.in_place in
     let paths = subst (λ (r : List ℕ). path_fault r c.live.pages c.carried ≡ None) (sym root) is.paths in
-    let small : live.pages < 2 ^ 32 = omega (arith, sound.opens.lawful.high_pages) in
+    let small : live.pages < 2 ^ 32 = omega (arith, sound.opens.valid.high_pages) in
     told file head live sound (count_own file live.pages c.live.pages c.carried (omega (arith, is.parts.some)) below is.parts.pages small paths) (pages_own file live.pages c.live.pages c.carried below is.parts.pages small paths)
   where
     told : (file : List ℕ) (head : Head) (live : Live) → IsSoundFile s head live file → (c.live.pages ≡ live.pages) ⊎ Collide (hashed_for file live.pages) (shown_by c.live.pages c.carried) → AllOwn file c.carried ⊎ Collide (hashed_for file live.pages) (shown_by c.live.pages c.carried)

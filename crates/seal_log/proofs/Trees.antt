@@ -144,8 +144,8 @@ unfolding leaf_digests
 leaf_digests-at file n i lt = get_or-map-range_with_len (λ i. sha256 (leaf_message (page_of file i))) 0 n i i [] lt (zero-add i)
 
 -- one page more was sealed, over a disk that was not changed
-pub leaf_made : (start now : DiskState) (leaves : List Digest) (n : ℕ) (digest : Digest) → IsTrue start.tells → IsUnchanged start now → leaves ≡ leaf_digests start.bytes n
-    → (IsTrue now.tells → digest ≡ sha256 (leaf_message (page_of now.bytes n))) → leaves ++ digest ∷ [] ≡ leaf_digests start.bytes (n + 1)
+pub leaf_made : (start now : DiskState) (leaves : List Digest) (n : ℕ) (digest : Digest) → IsTrue start.is_known → IsUnchanged start now → leaves ≡ leaf_digests start.bytes n
+    → (IsTrue now.is_known → digest ≡ sha256 (leaf_message (page_of now.bytes n))) → leaves ++ digest ∷ [] ≡ leaf_digests start.bytes (n + 1)
 leaf_made start now leaves n digest told same so_far sealed =
-    let here = sealed (subst IsTrue (sym same.same_tells) told) ∙ ap (λ (b : List ℕ). sha256 (leaf_message (page_of b n))) same.same_bytes in
+    let here = sealed (subst IsTrue (sym same.same_known) told) ∙ ap (λ (b : List ℕ). sha256 (leaf_message (page_of b n))) same.same_bytes in
     ap (λ (t : List Digest). t ++ digest ∷ []) so_far ∙ ap (λ (d : Digest). leaf_digests start.bytes n ++ d ∷ []) here ∙ sym (leaf_digests-more start.bytes n)

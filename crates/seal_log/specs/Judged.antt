@@ -12,7 +12,7 @@ use Rattle.node_page.specs.Opening.{page_of, OpensTo, Unopened, slot_fault, live
 use Rattle.page_store.specs.Reading.{reading}
 use Rattle.log_model.specs.declared.marks.Record.{Record}
 use Rattle.log_model.specs.declared.logs.Log.{Log}
-use Rattle.log_model.specs.Grammar.{IsLawfulLog}
+use Rattle.log_model.specs.Grammar.{IsValidLog}
 use Rattle.prune_log.specs.declared.fault.LogFault.{LogFault}
 use Rattle.prune_log.specs.declared.fault.LogFault.TheVariants as logs
 use Rattle.prune_log.specs.Reading.{log_fault}
@@ -26,7 +26,7 @@ use Rattle.seal_log.specs.declared.parts.CarriedPage.{CarriedPage}
 use Rattle.seal_log.specs.declared.parts.Parts.{Parts}
 use Rattle.seal_log.specs.Digests.{Digest}
 use Rattle.seal_log.specs.Paths.{leads_to, check_messages}
-use Rattle.seal_log.specs.Spelling.{carried_bytes, AreLawful}
+use Rattle.seal_log.specs.Spelling.{carried_bytes, AreValid}
 use Rattle.seal_log.specs.Reading.{carried_at}
 
 -- ---- the carried file
@@ -128,11 +128,11 @@ parts_in c = record { pages = c.live.pages; carried = c.carried }
 
 -- each path leads to the root, and the carried file opens to this head and live slot; the log has a spelling
 pub record IsCarried (c : CarriedLog) : Type 0 where
-  pub parts : AreLawful (parts_in c)
+  pub parts : AreValid (parts_in c)
   pub paths : path_fault c.root c.live.pages c.carried ≡ None
   pub opens : OpensTo (file_of c) c.head c.live
   pub version : c.head.version ≡ 2
-  pub log : IsLawfulLog c.log
+  pub log : IsValidLog c.log
 
 -- the bytes spell this carried log
 pub record SpellsCarried (bytes : List ℕ) (c : CarriedLog) : Type 0 where

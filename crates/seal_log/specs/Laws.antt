@@ -5,7 +5,7 @@ use Rattle.tree_shape.specs.declared.live.Live.{Live}
 use Rattle.node_page.specs.declared.head.Head.{Head}
 use Rattle.page_store.specs.Files.{IsSoundFile, nodes_in, points_in}
 use Rattle.log_model.specs.declared.logs.Log.{Log}
-use Rattle.log_model.specs.Grammar.{IsLawfulLog}
+use Rattle.log_model.specs.Grammar.{IsValidLog}
 use Rattle.log_model.specs.Sound.{IsSoundLog}
 use Rattle.log_model.specs.Laws.{scan_answers}
 use Rattle.prune_log.specs.Ranges.{IsBytes, LogInRange}
@@ -40,5 +40,5 @@ pub record IsAccepted (s : Space) (root : Digest) (bytes : List ℕ) (log : Log)
 abbrev pub CarriedLogsAreAccepted : Type 0
 CarriedLogsAreAccepted =
     (s : Space) (head : Head) (live : Live) (file : List ℕ) (log : Log) (bytes : List ℕ) → IsSoundFile s head live file →
-    IsLawfulLog log → LogInRange log → IsSoundLog s (nodes_in head.dim live file) live log → Carries file (leaf_digests file live.pages) log bytes →
+    IsValidLog log → LogInRange log → IsSoundLog s (nodes_in head.dim live file) live log → Carries file (leaf_digests file live.pages) log bytes →
     IsAccepted s (root_digest file live.pages) bytes log

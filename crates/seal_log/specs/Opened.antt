@@ -3,14 +3,14 @@ use Rattle.std.specs.Prelude.{◌≡◌, ◌⊎◌, ℕ, ◌*◌, ◌<◌, ◌==
 use Rattle.tree_shape.specs.declared.live.Live.{Live}
 use Rattle.node_page.specs.Bytes.{number_at}
 use Rattle.node_page.specs.Slots.{SpellsSlot}
-use Rattle.node_page.specs.Opening.{slot_of_live, IsLawfulLive}
+use Rattle.node_page.specs.Opening.{slot_of_live, IsValidLive}
 
 -- the slot on `page` is live and counts `pages` pages, where the other slot is on `other`
 pub record IsLiveIn (side : ℕ) (page other : List ℕ) (limit pages : ℕ) (live : Live) : Type 0 where
   pub side_is : live.side ≡ side
   pub newest : IsTrue (slice_index other 0 == 165) → number_at 8 8 other < live.generation
   pub spells : SpellsSlot page (slot_of_live live)
-  pub lawful : IsLawfulLive limit (4096 * pages) live
+  pub valid : IsValidLive limit (4096 * pages) live
   pub all : live.pages ≡ pages
 
 -- the live slot is one of the two

@@ -58,7 +58,7 @@ AreInPlace pages last [] = Unit {0}
 AreInPlace pages last (p ∷ ps) = (may_follow pages last p.page ≡ true) × AreInPlace pages (Some p.page) ps
 
 -- the parts that have a spelling; the first three carried pages are the head and the two slots
-pub record AreLawful (parts : Parts) : Type 0 where
+pub record AreValid (parts : Parts) : Type 0 where
   pub pages : parts.pages < 2 ^ 32
   pub some : 3 ≤ length parts.carried
   pub few : length parts.carried < 2 ^ 32

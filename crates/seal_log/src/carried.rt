@@ -1,13 +1,13 @@
 ghost use Rattle.std.specs.Prelude.{◌≡◌, ◌⊎◌, ◌<◌, None, Some, IfOk, IfErr, OnOk};
 ghost use Rattle.std.specs.List.{AllByRecursion, AllPairs};
-ghost use Rattle.log_model.specs.Grammar.{IsLawfulLog};
-ghost use Rattle.node_page.specs.Nodes.{IsLawfulNode, fault_in, node_in};
+ghost use Rattle.log_model.specs.Grammar.{IsValidLog};
+ghost use Rattle.node_page.specs.Nodes.{IsValidNode, fault_in, node_in};
 ghost use Rattle.node_page.specs.declared.node.Version.TheVariants.{Second};
 ghost use Rattle.page_store.specs.Reading.{IsBytesFault};
 ghost use Rattle.node_page.specs.Opening.{page_of, OpensTo};
 ghost use Rattle.prune_log.specs.Laws.{SpellsLog};
 ghost use Rattle.prune_log.specs.Reading.{log_fault};
-ghost use Rattle.seal_log.specs.Spelling.{AreLawful};
+ghost use Rattle.seal_log.specs.Spelling.{AreValid};
 ghost use Rattle.seal_log.specs.Judged.{IsCarried, SpellsCarried, carried_file, file_of, parts_in, path_fault, slots_fault, after_log, parts_fault, reading_fault, proof_fault, missing_from};
 
 use crate::opening::{live_of, read_head};
@@ -63,8 +63,8 @@ impl Carried {
     /// Returns the carried log's log.
     pub fn log(&self) -> &Log
         ensures value { result.now ≡ self.now.log }
-        ensures lawful { IsLawfulLog result.now }
-        // The carried log is lawful too.
+        ensures valid { IsValidLog result.now }
+        // The carried log is valid too.
         ensures carried { IsCarried self.now }
     {
         &self.log
@@ -73,7 +73,7 @@ impl Carried {
     /// Returns the node on page `page` of the carried file.
     pub fn node_on(&self, alloc: Global, page: u32) -> Result<SharedNode, PageFault>
         requires { page < self.now.live.pages }
-        ensures lawful { IfOk result (IsLawfulNode self.now.head.dim) }
+        ensures valid { IfOk result (IsValidNode self.now.head.dim) }
         ensures told { IfOk result (λ node. (fault_in Second self.now.head.dim (page_of (file_of self.now) page) ≡ None)
             × (node ≡ node_in Second self.now.head.dim (page_of (file_of self.now) page))) }
         ensures fault { IfErr result (IsBytesFault Second self.now.head.dim (page_of (file_of self.now) page) page) }
@@ -147,7 +147,7 @@ fn read_log(alloc: Global, bytes: &[u8]) -> Result<Log, ProofFault>
 
 // Opens the carried pages as a file: returns its head and its live slot.
 fn open_pages(pages: u32, carried: &[CarriedPage]) -> Result<(Head, Live), ProofFault>
-    requires { AreLawful (record { pages = pages; carried = carried.now }) }
+    requires { AreValid (record { pages = pages; carried = carried.now }) }
     ensures opens { IfOk result (λ opened. OpensTo (carried_file pages carried.now) opened.0 opened.1) }
     ensures version { IfOk result (λ opened. opened.0.version ≡ 2) }
     ensures all { IfOk result (λ opened. opened.1.pages ≡ pages) }
@@ -173,7 +173,7 @@ fn judge_parts(
     parts: Parts,
     log: &[u8],
 ) -> Result<Carried, ProofFault>
-    requires { AreLawful parts }
+    requires { AreValid parts }
     ensures root { IfOk result (λ c. c.root ≡ root.now) }
     ensures carried { IfOk result IsCarried }
     ensures parts { IfOk result (λ c. parts_in c ≡ parts) }

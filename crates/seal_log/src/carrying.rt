@@ -3,7 +3,7 @@ ghost use Rattle.std.specs.Prelude.{◌≡◌, ◌++◌, ◌+◌, ◌≤◌, ◌
 ghost use Rattle.outside_io.specs.Causes.{Rose};
 ghost use Rattle.disk_model.specs.Disk.{IsUnchanged};
 ghost use Rattle.byteorder.specs.Endian.{big_bytes};
-ghost use Rattle.log_model.specs.Grammar.{IsLawfulLog};
+ghost use Rattle.log_model.specs.Grammar.{IsValidLog};
 ghost use Rattle.prune_log.specs.Spelling.{listed};
 ghost use Rattle.seal_log.specs.Digests.{levels_over};
 ghost use Rattle.seal_log.specs.Paths.{path_in};
@@ -56,7 +56,7 @@ fn put_page<D: Disk>(
 ) -> Result<(), SealFault>
     requires few { length tree.now ≤ 262144 }
     requires within { page < 2 ^ 24 }
-    ensures put { OnOk result (IsTrue (D.state disk.old).tells →
+    ensures put { OnOk result (IsTrue (D.state disk.old).is_known →
         out.new.items ≡ out.old.items ++ page_bytes (page_with_path (D.state disk.old).bytes tree.now page)) }
     ensures disk { IsErrOf result SealFault.Disk → Rose (D.state disk.old).faults (D.state disk.new).faults }
     ensures later { (D.state disk.old).faults ≤ (D.state disk.new).faults }
@@ -84,7 +84,7 @@ fn put_pages<D: Disk>(
 ) -> Result<(), SealFault>
     requires few { length tree.now ≤ 262144 }
     requires within { All (λ page. page < 2 ^ 24) pages.now }
-    ensures put { OnOk result (IsTrue (D.state disk.old).tells → out.new.items ≡ out.old.items
+    ensures put { OnOk result (IsTrue (D.state disk.old).is_known → out.new.items ≡ out.old.items
         ++ pages_bytes (D.state disk.old).bytes tree.now pages.now) }
     ensures disk { IsErrOf result SealFault.Disk → Rose (D.state disk.old).faults (D.state disk.new).faults }
     ensures later { (D.state disk.old).faults ≤ (D.state disk.new).faults }
@@ -110,7 +110,7 @@ fn put_front(out: &mut Vec<u8>, pages: u32, count: u32) -> Result<(), Memory>
 
 /// Returns the carried log of a log over the file with this tree: pages 0, 1 and 2 and the pages that the log's records name, with
 /// their paths, and the log. Reads each page once. `Disk` comes only where the disk failed. Changes nothing.
-/// Clauses: what is asked of the caller (`some`, `few`, `lawful`, `within`); the answer (`carries`); what stays (`same`); the cost
+/// Clauses: what is asked of the caller (`some`, `few`, `valid`, `within`); the answer (`carries`); what stays (`same`); the cost
 /// (`reads`); the cause of an error (`disk`); faults of the devices (`later`, `no_fault`).
 pub fn carry<D: Disk>(
     alloc: Global,
@@ -120,9 +120,9 @@ pub fn carry<D: Disk>(
 ) -> Result<Vec<u8>, SealFault>
     requires some { 3 ≤ length tree.now }
     requires few { length tree.now ≤ 262144 }
-    requires lawful { IsLawfulLog log.now }
+    requires valid { IsValidLog log.now }
     requires within { All (λ r. r.page < length tree.now) log.now.records }
-    ensures carries { IfOk result (λ bytes. IsTrue (D.state disk.old).tells →
+    ensures carries { IfOk result (λ bytes. IsTrue (D.state disk.old).is_known →
         Carries (D.state disk.old).bytes tree.now log.now bytes.items) }
     ensures disk { IsErrOf result SealFault.Disk → Rose (D.state disk.old).faults (D.state disk.new).faults }
     ensures later { (D.state disk.old).faults ≤ (D.state disk.new).faults }

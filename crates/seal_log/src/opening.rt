@@ -2,12 +2,12 @@
 ghost use Rattle.std.specs.Prelude.{◌≡◌, ◌↔◌, ◌*◌, Some, IfSome, IfOk, IfErr, IsNone, IsTrue};
 ghost use Rattle.tree_shape.specs.declared.live.Live.{Live};
 ghost use Rattle.node_page.specs.Heads.{SpellsHead, head_fault, head_of};
-ghost use Rattle.node_page.specs.Opening.{IsLawfulLive};
+ghost use Rattle.node_page.specs.Opening.{IsValidLive};
 ghost use Rattle.seal_log.specs.Judged.{after_head};
 ghost use Rattle.seal_log.specs.Opened.{IsLiveIn, IsLiveOf};
 
 use crate::ProofFault;
-use node_page::{Head, HeadFault, decode_head, decode_slot, is_lawful_live, live_at, read_gate};
+use node_page::{Head, HeadFault, decode_head, decode_slot, is_valid_live, live_at, read_gate};
 use tree_shape::Live;
 
 // Reads the head on page 0, which has to be of version 2.
@@ -27,10 +27,10 @@ pub fn read_head(page: &[u8; 4096]) -> Result<Head, ProofFault>
 }
 
 // Returns whether `live` keeps the bounds of a file of `pages` pages whose head has the limit `limit`.
-fn is_lawful(limit: u32, pages: u32, live: &Live) -> bool
-    ensures { IsTrue result ↔ (IsLawfulLive limit (4096 * pages) live.now × (live.now.pages ≡ pages)) }
+fn is_valid(limit: u32, pages: u32, live: &Live) -> bool
+    ensures { IsTrue result ↔ (IsValidLive limit (4096 * pages) live.now × (live.now.pages ≡ pages)) }
 {
-    live.pages == pages && is_lawful_live(limit, u64::from(pages) * 4096, live)
+    live.pages == pages && is_valid_live(limit, u64::from(pages) * 4096, live)
 }
 
 // Returns the live slot on `page`, where the other slot is on `other`: its gate is open, and the other's is closed or of a lesser
@@ -46,7 +46,7 @@ fn live_in(side: u8, page: &[u8; 4096], other: &[u8; 4096], limit: u32, pages: u
     }
     let slot = decode_slot(page)?;
     let live = live_at(side, &slot);
-    if !is_lawful(limit, pages, &live) {
+    if !is_valid(limit, pages, &live) {
         return None;
     }
     Some(live)

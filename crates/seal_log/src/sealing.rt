@@ -15,7 +15,7 @@ use std::alloc::Global;
 // Reads page `page` and returns its digest.
 fn seal_page<D: Disk>(disk: &mut D, page: u32) -> Result<[u8; 32], SealFault>
     requires { page < 2 ^ 24 }
-    ensures sealed { IfOk result (λ digest. IsTrue (D.state disk.old).tells →
+    ensures sealed { IfOk result (λ digest. IsTrue (D.state disk.old).is_known →
         digest ≡ sha256 (leaf_message (page_of (D.state disk.old).bytes page))) }
     ensures disk { IsErrOf result SealFault.Disk → Rose (D.state disk.old).faults (D.state disk.new).faults }
     ensures later { (D.state disk.old).faults ≤ (D.state disk.new).faults }
@@ -37,7 +37,7 @@ fn seal_page<D: Disk>(disk: &mut D, page: u32) -> Result<[u8; 32], SealFault>
 pub fn seal<D: Disk>(alloc: Global, disk: &mut D, pages: u32) -> Result<Tree, SealFault>
     requires some { 4 ≤ pages }
     requires few { pages ≤ 262144 }
-    ensures sealed { IfOk result (λ tree. IsTrue (D.state disk.old).tells → tree ≡ leaf_digests (D.state disk.old).bytes pages) }
+    ensures sealed { IfOk result (λ tree. IsTrue (D.state disk.old).is_known → tree ≡ leaf_digests (D.state disk.old).bytes pages) }
     ensures size { IfOk result (λ tree. length tree ≡ pages) }
     ensures disk { IsErrOf result SealFault.Disk → Rose (D.state disk.old).faults (D.state disk.new).faults }
     ensures later { (D.state disk.old).faults ≤ (D.state disk.new).faults }

@@ -109,7 +109,7 @@ pub fn verify_carried<M: Metric>(
     carried: &Carried,
     metric: M,
 ) -> Result<Proved, ProofFault>
-    requires { (M.space metric).words ≡ carried.now.head.dim }
+    requires { (M.space metric).dimension ≡ carried.now.head.dim }
     ensures query { IfOk result (λ proved. proved.query ≡ carried.now.log.query) }
     ensures answers { IfOk result (λ proved. proved.answers ≡ carried.now.log.answers) }
     ensures faultless { OnOk result (judged_fault (M.space metric) carried.now ≡ None) }

@@ -14,7 +14,7 @@ use Rattle.plain_scan.specs.OpenCursors.{OpenCursors}
 use Rattle.page_store.specs.declared.pages.PageFault.{PageFault}
 use Rattle.page_store.specs.declared.pages.PageFault.TheVariants as page
 use Rattle.log_model.specs.declared.logs.Found.{Found}
-use Rattle.log_model.specs.Grammar.{IsLawfulLog}
+use Rattle.log_model.specs.Grammar.{IsValidLog}
 use Rattle.log_model.specs.Laws.{scan_answers}
 use Rattle.log_model.specs.Sound.{IsSoundLog}
 use Rattle.tree_shape.specs.Tree.{tags_by_id}
@@ -29,7 +29,7 @@ use Rattle.index_core.specs.Answers.{HasRangeCause, HasReachCause, HasSearched, 
 use Rattle.page_store.specs.Shelf.{IsDamage as IsWalkDamage}
 use Rattle.index_core.specs.Causes.{HasReadCause, MayComeAnytime}
 use Rattle.index_core.specs.Damage.{BlamesDamage}
-use Rattle.index_core.specs.Files.{OpenFile, IsLawfulFile, OnlyReads, nodes_on, pages_on}
+use Rattle.index_core.specs.Files.{OpenFile, IsValidFile, OnlyReads, nodes_on, pages_on}
 use Rattle.index_core.specs.Index.{OpenIndex, StandsAlone}
 use Rattle.index_core.proofs.Published.{reads_both}
 use Rattle.session_run.specs.declared.answer.Answer.{Answer}
@@ -78,14 +78,14 @@ fault_ends walk fault.Stopped cause = absurd cause
 fault_ends walk fault.Commit cause = absurd cause
 
 pub fault_stepped : {M : Type 0} (s : Space) (show : Bool) (old new : OpenIndex M) (cursors : OpenCursors) (before after : DiskState) (c : Command) (walk : PageFault → Type 0) (why : IndexFault) →
-    IsLawfulFile s.words old.file → StandsAlone old before → OnlyReads old.file new.file before after → HasReadCause walk why → (walk page.Disk → Rose before.faults after.faults) →
+    IsValidFile s.dimension old.file → StandsAlone old before → OnlyReads old.file new.file before after → HasReadCause walk why → (walk page.Disk → Rose before.faults after.faults) →
     (IsSoundOn s old.file before → MayComeAnytime why) → BlamesDamage old.file before why → HasStepped s show old new cursors cursors before after c (answer_of_fault why)
-fault_stepped s show old new cursors before after c walk why lawful alone reads cause rose undamaged blames =
+fault_stepped s show old new cursors before after c walk why valid alone reads cause rose undamaged blames =
     let ends = fault_ends walk why cause in
     let is = fault_cause {Sound = IsSoundOn s old.file before} before after walk why cause rose undamaged in
-    let stands = blames_stands old.file before after alone.stands.opens reads.same.same_tells why (λ f e. reads.same.same_bytes) blames in
+    let stands = blames_stands old.file before after alone.stands.opens reads.same.same_known why (λ f e. reads.same.same_bytes) blames in
     subst (λ (r : Result Answer SessionStop). HasStepped s show old new cursors cursors before after c r) (sym ends.1)
-    (read_stopped s show old new cursors cursors before after c ends.0 lawful alone reads (rw ends.1 at is) (rw ends.1 at stands))
+    (read_stopped s show old new cursors cursors before after c ends.0 valid alone reads (rw ends.1 at is) (rw ends.1 at stands))
 
 -- hits have one text, shown with the same tags, or hidden
 same_text : (show : Bool) (hits scanned : List Hit) (tags meant : List ℕ) → hits ≡ scanned → (show ≡ true → tags ≡ meant) → text show (reply.Hits hits tags) ≡ text show (reply.Hits scanned meant)
@@ -99,16 +99,16 @@ read_for false records before mid after first second = omega arith
 
 -- a query that is answered
 pub query_stepped : {M : Type 0} (s : Space) (show : Bool) (old new : OpenIndex M) (file : OpenFile M) (cursors : OpenCursors) (before mid after : DiskState) (c : Command) (asked : Query) (found : Found) (a : Answer) →
-    IsLawfulFile s.words old.file → StandsAlone old before → new.stopped ≡ false → OnlyReads old.file file before mid → OnlyReads file new.file mid after →
+    IsValidFile s.dimension old.file → StandsAlone old before → new.stopped ≡ false → OnlyReads old.file file before mid → OnlyReads file new.file mid after →
     HasSearched s old.file asked before mid (Ok found) → IsShownAs s show file found mid a → after.reads ≤ mid.reads + (if show then length found.log.records else 0) → answered_query s c ≡ Some asked →
     step (setting_of s old.file) (state_on old.file before cursors) c
     ≡ record { reply = hits_reply (state_on old.file before cursors).objects (scan_answers s asked (points_on old.file before)); state = state_on old.file before cursors } →
     HasStepped s show old new cursors cursors before after c (Ok a)
-query_stepped {M} s show old new file cursors before mid after c asked found a lawful alone going first second searched shown few answered meaning =
-    read_stepped s show old new cursors cursors before after c a lawful alone going both
-    (subst (λ (x : Answer). MatchOption x.log (Unit {0}) IsLawfulLog) (sym shown.is) searched.log.lawful)
+query_stepped {M} s show old new file cursors before mid after c asked found a valid alone going first second searched shown few answered meaning =
+    read_stepped s show old new cursors cursors before after c a valid alone going both
+    (subst (λ (x : Answer). MatchOption x.log (Unit {0}) IsValidLog) (sym shown.is) searched.log.valid)
     (λ asks. subst (λ (x : Answer). TagsAre x.reply) (sym shown.is) (shown.each asks))
-    (λ sound. read_taken s show old new.file cursors cursors before after c a None (hits_reply objects (scan_answers s asked objects.points)) lawful alone both sound meaning refl tt (logged sound) (same sound)
+    (λ sound. read_taken s show old new.file cursors cursors before after c a None (hits_reply objects (scan_answers s asked objects.points)) valid alone both sound meaning refl tt (logged sound) (same sound)
     (λ asks. subst (λ (x : Answer). after.reads ≤ before.reads + most_read show (if_any x.log)) (sym shown.is)
     (read_for show (length found.log.records) before.reads mid.reads after.reads (searched.answer sound).reads few)))
   where
@@ -147,31 +147,31 @@ cause_then before mid after stop.Memory later kept cause = tt
 cause_then before mid after stop.Sink later kept cause = absurd cause
 
 pub found_stepped : {M : Type 0} (space : M → Space) (show : Bool) (old new : OpenIndex M) (file : OpenFile M) (cursors : OpenCursors) (before mid after : DiskState) (c : Command) (asked : Query) (found : Found)
-    (result : Result Answer SessionStop) → IsLawfulFile (space old.file.metric).words old.file → StandsAlone old before → new.stopped ≡ false → OnlyReads old.file file before mid → OnlyReads file new.file mid after →
+    (result : Result Answer SessionStop) → IsValidFile (space old.file.metric).dimension old.file → StandsAlone old before → new.stopped ≡ false → OnlyReads old.file file before mid → OnlyReads file new.file mid after →
     HasSearched (space old.file.metric) old.file asked before mid (Ok found) → IfOk result (IsShownAs (space file.metric) show file found mid) →
     IfErr result (HasStepCause (IsSoundOn (space file.metric) file mid) mid after) → after.reads ≤ mid.reads + (if show then length found.log.records else 0) → IfErr result (StandsBy file.head after) → answered_query (space old.file.metric) c ≡ Some asked →
     step (setting_of (space old.file.metric) old.file) (state_on old.file before cursors) c ≡ record {
       reply = hits_reply (state_on old.file before cursors).objects (scan_answers (space old.file.metric) asked (points_on old.file before));
       state = state_on old.file before cursors;
     } → HasStepped (space old.file.metric) show old new cursors cursors before after c result
-found_stepped {M} space show old new file cursors before mid after c asked found (Ok a) lawful alone going first second searched shown cause few stands answered meaning =
-    query_stepped (space old.file.metric) show old new file cursors before mid after c asked found a lawful alone going first second searched
+found_stepped {M} space show old new file cursors before mid after c asked found (Ok a) valid alone going first second searched shown cause few stands answered meaning =
+    query_stepped (space old.file.metric) show old new file cursors before mid after c asked found a valid alone going first second searched
     (subst (λ (m : M). IsShownAs (space m) show file found mid a) (ap (λ (f : OpenFile M). f.metric) first.rest) shown) few answered meaning
-found_stepped {M} space show old new file cursors before mid after c asked found (Err why) lawful alone going first second searched shown cause few stands answered meaning =
-    read_stopped (space old.file.metric) show old new cursors cursors before after c why lawful alone (reads_both old.file file new.file before mid after first second)
+found_stepped {M} space show old new file cursors before mid after c asked found (Err why) valid alone going first second searched shown cause few stands answered meaning =
+    read_stopped (space old.file.metric) show old new cursors cursors before after c why valid alone (reads_both old.file file new.file before mid after first second)
     (cause_then before mid after why first.later (λ sound. sound_still (space old.file.metric) old.file file before mid first sound)
     (subst (λ (m : M). HasStepCause (IsSoundOn (space m) file mid) mid after why) (ap (λ (f : OpenFile M). f.metric) first.rest) cause))
     (subst (λ (f : OpenFile M). StandsBy f.head after why) first.rest stands)
 
 -- a search that was refused
 pub range_fault : {M : Type 0} (s : Space) (show : Bool) (old new : OpenIndex M) (cursors : OpenCursors) (before after : DiskState) (c : Command) (q : List ℕ) (r : ℕ) (why : IndexFault) →
-    IsLawfulFile s.words old.file → StandsAlone old before → OnlyReads old.file new.file before after → HasRangeCause s old.file q r before after why → (IsSoundOn s old.file before → MayComeAnytime why) → BlamesDamage old.file before why →
+    IsValidFile s.dimension old.file → StandsAlone old before → OnlyReads old.file new.file before after → HasRangeCause s old.file q r before after why → (IsSoundOn s old.file before → MayComeAnytime why) → BlamesDamage old.file before why →
     HasStepped s show old new cursors cursors before after c (answer_of_fault why)
-range_fault s show old new cursors before after c q r why lawful alone reads cause undamaged blames = fault_stepped s show old new cursors before after c
-    (HasWalkCause (search_at s q (min r bound)) old.file.live (pages_on old.file before 0) (pages_on old.file after (count_up 0 old.file.live.pages))) why lawful alone reads cause (λ rose. rose) undamaged blames
+range_fault s show old new cursors before after c q r why valid alone reads cause undamaged blames = fault_stepped s show old new cursors before after c
+    (HasWalkCause (search_at s q (min r bound)) old.file.live (pages_on old.file before 0) (pages_on old.file after (count_up 0 old.file.live.pages))) why valid alone reads cause (λ rose. rose) undamaged blames
 
 pub reach_fault : {M : Type 0} (s : Space) (show : Bool) (old new : OpenIndex M) (cursors : OpenCursors) (before after : DiskState) (c : Command) (why : IndexFault) →
-    IsLawfulFile s.words old.file → StandsAlone old before → OnlyReads old.file new.file before after → HasReachCause old.file before after why → (IsSoundOn s old.file before → MayComeAnytime why) → BlamesDamage old.file before why →
+    IsValidFile s.dimension old.file → StandsAlone old before → OnlyReads old.file new.file before after → HasReachCause old.file before after why → (IsSoundOn s old.file before → MayComeAnytime why) → BlamesDamage old.file before why →
     HasStepped s show old new cursors cursors before after c (answer_of_fault why)
-reach_fault s show old new cursors before after c why lawful alone reads cause undamaged blames = fault_stepped s show old new cursors before after c
-    (HasNearestCause old.file.live (pages_on old.file before 0) (pages_on old.file after (count_up 0 old.file.live.pages))) why lawful alone reads cause (λ rose. rose) undamaged blames
+reach_fault s show old new cursors before after c why valid alone reads cause undamaged blames = fault_stepped s show old new cursors before after c
+    (HasNearestCause old.file.live (pages_on old.file before 0) (pages_on old.file after (count_up 0 old.file.live.pages))) why valid alone reads cause (λ rose. rose) undamaged blames

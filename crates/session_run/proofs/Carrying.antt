@@ -23,7 +23,7 @@ use Rattle.tree_shape.specs.Tree.{IsSoundTree}
 use Rattle.index_core.specs.declared.faults.IndexFault.{IndexFault}
 use Rattle.index_core.specs.declared.faults.IndexFault.TheVariants as fault
 use Rattle.index_core.specs.Answers.{IsSoundOn}
-use Rattle.index_core.specs.Files.{OpenFile, IsLawfulFile, OnlyReads}
+use Rattle.index_core.specs.Files.{OpenFile, IsValidFile, OnlyReads}
 use Rattle.index_core.specs.Index.{OpenIndex, StandsAlone}
 use Rattle.index_core.specs.Pinning.{IsPinned}
 use Rattle.index_core.specs.Writing.{Write, GuardsPages, HasWritten, IsRefused}
@@ -52,12 +52,12 @@ pub keeps_reading : {M : Type 0} (old new : OpenIndex M) (before after : DiskSta
 keeps_reading {M} old new before after rest reads = record {
   guarded = λ generation tree is. subst (λ (i : OpenIndex M). GuardsPages generation tree i) (sym rest)
       (subst (λ (file : OpenFile M). MatchOption old.free ⊥ (λ f. IsGuarded file.live.pages generation f tree)) (sym reads.rest) is);
-  kept = λ tells generation tree is. same_pages tree before.bytes after.bytes reads.same.same_bytes;
+  kept = λ is_known generation tree is. same_pages tree before.bytes after.bytes reads.same.same_bytes;
 }
 
 -- nothing is done
 pub keeps_none : {M : Type 0} (index : OpenIndex M) (disk : DiskState) → KeepsGuarded index index disk disk
-keeps_none index disk = record { guarded = λ generation tree is. is; kept = λ tells generation tree is. same_pages tree disk.bytes disk.bytes refl }
+keeps_none index disk = record { guarded = λ generation tree is. is; kept = λ is_known generation tree is. same_pages tree disk.bytes disk.bytes refl }
 
 still_listed : (pages generation : ℕ) (tree : List ℕ) (old new : Option FreePages) → MatchOption old (Unit {0}) (λ f. new ≡ Some f) →
     MatchOption old ⊥ (λ f. IsGuarded pages generation f tree) → MatchOption new ⊥ (λ f. IsGuarded pages generation f tree)
@@ -68,16 +68,16 @@ still_listed pages generation tree (Some f) new same is = subst (λ (free : Opti
 keeps_refused : {M : Type 0} (old new : OpenIndex M) (before after : DiskState) → IsRefused old new before after → KeepsGuarded old new before after
 keeps_refused {M} old new before after refused = record {
   guarded = λ generation tree is. subst (λ (i : OpenIndex M). GuardsPages generation tree i) (sym refused.is) (still_listed old.file.live.pages generation tree old.free new.free refused.free is);
-  kept = λ tells generation tree is. same_pages tree before.bytes after.bytes refused.same.same_bytes;
+  kept = λ is_known generation tree is. same_pages tree before.bytes after.bytes refused.same.same_bytes;
 }
 
 -- a write that is answered
 pub keeps_written : {M : Type 0} (s : Space) (write : Write) (says : ℕ → Reply) (old new : OpenIndex M) (before after : DiskState) (result : Result ℕ IndexFault) → HasWritten s write old new before after result →
-    (IsTrue after.tells → MayLeave after after.bytes) → after.tells ≡ before.tells → OnOk (written_answer says result) (KeepsGuarded old new before after)
+    (IsTrue after.is_known → MayLeave after after.bytes) → after.is_known ≡ before.is_known → OnOk (written_answer says result) (KeepsGuarded old new before after)
 keeps_written s write says old new before after (Ok n) written image told = record {
   guarded = written.guarded;
-  kept = λ tells generation tree is.
-      let kept = written.kept generation tree tells is in kept.each after.clock after.bytes kept.later (omega arith) (image (rw told tells));
+  kept = λ is_known generation tree is.
+      let kept = written.kept generation tree is_known is in kept.each after.clock after.bytes kept.later (omega arith) (image (rw told is_known));
 }
 keeps_written s write says old new before after (Err fault.Full) written image told = keeps_refused old new before after (written.refused (λ e. absurd (cc)))
 keeps_written s write says old new before after (Err fault.NotEmpty) written image told = keeps_refused old new before after (written.refused (λ e. absurd (cc)))
@@ -126,15 +126,15 @@ unfolding reading_in
 read_same dim pages one other page same =
     ap (λ (bytes : List ℕ). if is_within pages page then judged page (fault_in Second dim bytes) (node_in Second dim bytes) else Err (Outside page)) same
 
-pub stands_still : {M : Type 0} (s : Space) (old new : OpenIndex M) (before after : DiskState) (c : PinnedCursor) (meant : Cursor) → KeepsGuarded old new before after → IsTrue before.tells → new.file.head ≡ old.file.head →
+pub stands_still : {M : Type 0} (s : Space) (old new : OpenIndex M) (before after : DiskState) (c : PinnedCursor) (meant : Cursor) → KeepsGuarded old new before after → IsTrue before.is_known → new.file.head ≡ old.file.head →
     StandsFor s old before.bytes c meant → StandsFor s new after.bytes c meant
-stands_still s old new before after c meant keeps tells head was = record {
+stands_still s old new before after c meant keeps is_known head was = record {
   nodes = was.nodes;
   number = was.number;
   sound = was.sound;
   held = λ page i.
       let same : page_of after.bytes page ≡ page_of before.bytes page = all_in (λ page. page_of after.bytes page ≡ page_of before.bytes page) (live_pages was.nodes c.cursor.live) page
-      (keeps.kept tells c.cursor.live.generation (live_pages was.nodes c.cursor.live) was.guarded) i in
+      (keeps.kept is_known c.cursor.live.generation (live_pages was.nodes c.cursor.live) was.guarded) i in
       ap (λ h. nodes_of (reading h.dim c.cursor.live.pages after.bytes) page) head
       ∙ ap (λ read. nodes_of (λ p. read) page) (read_same old.file.head.dim c.cursor.live.pages after.bytes before.bytes page same) ∙ was.held page i;
   guarded = keeps.guarded c.cursor.live.generation (live_pages was.nodes c.cursor.live) was.guarded;
@@ -143,26 +143,26 @@ stands_still s old new before after c meant keeps tells head was = record {
   tags = was.tags;
 }
 
-pub each_still : {M : Type 0} (s : Space) (old new : OpenIndex M) (before after : DiskState) (cursors : List PinnedCursor) (meant : List Cursor) → KeepsGuarded old new before after → IsTrue before.tells → new.file.head ≡ old.file.head →
+pub each_still : {M : Type 0} (s : Space) (old new : OpenIndex M) (before after : DiskState) (cursors : List PinnedCursor) (meant : List Cursor) → KeepsGuarded old new before after → IsTrue before.is_known → new.file.head ≡ old.file.head →
     AllZip (StandsFor s old before.bytes) cursors meant → AllZip (StandsFor s new after.bytes) cursors meant
-each_still s old new before after [] [] keeps tells head was = tt
-each_still s old new before after [] (m ∷ meant) keeps tells head was = was
-each_still s old new before after (c ∷ cursors) [] keeps tells head was = was
-each_still s old new before after (c ∷ cursors) (m ∷ meant) keeps tells head was =
-    (stands_still s old new before after c m keeps tells head was.0, each_still s old new before after cursors meant keeps tells head was.1)
+each_still s old new before after [] [] keeps is_known head was = tt
+each_still s old new before after [] (m ∷ meant) keeps is_known head was = was
+each_still s old new before after (c ∷ cursors) [] keeps is_known head was = was
+each_still s old new before after (c ∷ cursors) (m ∷ meant) keeps is_known head was =
+    (stands_still s old new before after c m keeps is_known head was.0, each_still s old new before after cursors meant keeps is_known head was.1)
 
-stand_still : {M : Type 0} (s : Space) (old new : OpenIndex M) (before after : DiskState) (pinned : PinnedCursors) (opened : OpenCursors) → KeepsGuarded old new before after → IsTrue before.tells → new.file.head ≡ old.file.head →
+stand_still : {M : Type 0} (s : Space) (old new : OpenIndex M) (before after : DiskState) (pinned : PinnedCursors) (opened : OpenCursors) → KeepsGuarded old new before after → IsTrue before.is_known → new.file.head ≡ old.file.head →
     StandFor s old before.bytes pinned opened → StandFor s new after.bytes pinned opened
-stand_still s old new before after pinned opened keeps tells head was = record {
-  each = each_still s old new before after pinned.cursors.items opened.cursors keeps tells head was.each;
+stand_still s old new before after pinned opened keeps is_known head was = record {
+  each = each_still s old new before after pinned.cursors.items opened.cursors keeps is_known head was.each;
   next = was.next;
 }
 
 -- and the trees that the cursors go through
-pub still_through : {M : Type 0} (old new : OpenIndex M) (before after : DiskState) (pinned : PinnedCursors) → KeepsGuarded old new before after → after.tells ≡ before.tells → new.file.head ≡ old.file.head →
+pub still_through : {M : Type 0} (old new : OpenIndex M) (before after : DiskState) (pinned : PinnedCursors) → KeepsGuarded old new before after → after.is_known ≡ before.is_known → new.file.head ≡ old.file.head →
     AllGoThrough old before pinned → AllGoThrough new after pinned
-still_through old new before after pinned keeps told head through = λ tells.
-    let now : IsTrue before.tells = subst IsTrue told tells in
+still_through old new before after pinned keeps told head through = λ is_known.
+    let now : IsTrue before.is_known = subst IsTrue told is_known in
     all_weaker (GoesThrough old before.bytes) (GoesThrough new after.bytes) pinned.cursors.items
     (λ c goes. goes_still old new before.bytes after.bytes c
     (λ page same. ap (λ h. nodes_of (reading h.dim c.cursor.live.pages after.bytes) page) head ∙ ap (λ read. nodes_of (λ p. read) page) (read_same old.file.head.dim c.cursor.live.pages after.bytes before.bytes page same))
@@ -170,9 +170,9 @@ still_through old new before after pinned keeps told head through = λ tells.
     (through now)
 
 -- the file after a turn is sound
-pub sound_after : {M : Type 0} (s : Space) (show : Bool) (old new : OpenFile M) (opened cursors : OpenCursors) (before after : DiskState) (c : Command) (a : Answer) → after.tells ≡ before.tells → IsTrue before.tells →
+pub sound_after : {M : Type 0} (s : Space) (show : Bool) (old new : OpenFile M) (opened cursors : OpenCursors) (before after : DiskState) (c : Command) (a : Answer) → after.is_known ≡ before.is_known → IsTrue before.is_known →
     IsTaken s show old new opened cursors before after c a → IsSoundOn s new after
-sound_after s show old new opened cursors before after c a told tells taken = (rw told tells, subst (λ (v : Held). IsSoundTree s v.nodes v.live) taken.file taken.is.objects.sound)
+sound_after s show old new opened cursors before after c a told is_known taken = (rw told is_known, subst (λ (v : Held). IsSoundTree s v.nodes v.live) taken.file taken.is.objects.sound)
 
 -- ---- commands
 
@@ -190,7 +190,7 @@ carried s show old new pinned before after c (Ok a) did kept keeps = let any = d
   going = any.going;
   head = any.head;
   metric = any.metric;
-  tells = any.tells;
+  is_known = any.is_known;
   later = any.later;
   numbers = omega arith;
   kept = kept_still s old new pinned keeps.guarded kept;
@@ -198,12 +198,12 @@ carried s show old new pinned before after c (Ok a) did kept keeps = let any = d
   tagged = any.tagged;
   cause = tt;
   stands = λ through. tt;
-  through = λ through. still_through old new before after pinned keeps any.tells any.head through;
+  through = λ through. still_through old new before after pinned keeps any.is_known any.head through;
   taken = λ opened goes. let taken = (did opened).taken goes.sound in (
     opened,
     taken,
     record {
-      sound = sound_after s show old.file new.file opened opened before after c a any.tells goes.sound.0 taken;
+      sound = sound_after s show old.file new.file opened opened before after c a any.is_known goes.sound.0 taken;
       cursors = stand_still s old new before after pinned opened keeps goes.sound.0 any.head goes.cursors;
     },
   );
@@ -213,7 +213,7 @@ carried s show old new pinned before after c (Err why) did kept keeps = let any 
   going = tt;
   head = tt;
   metric = tt;
-  tells = any.tells;
+  is_known = any.is_known;
   later = any.later;
   numbers = tt;
   kept = tt;
@@ -227,7 +227,7 @@ carried s show old new pinned before after c (Err why) did kept keeps = let any 
 }
 
 module _ {M : Type 0} (s : Space) (show : Bool) (old new : OpenIndex M) (pinned0 pinned1 : PinnedCursors) (before after : DiskState) (c : Command)
-    (lawful : IsLawfulFile s.words old.file) (alone : StandsAlone old before) (reads : OnlyReads old.file new.file before after) where
+    (valid : IsValidFile s.dimension old.file) (alone : StandsAlone old before) (reads : OnlyReads old.file new.file before after) where
   -- what a reply means to the cursors
   abbrev pub Means : Reply → OpenCursors → OpenCursors → Type 0
   Means meant opened cursors =
@@ -242,7 +242,7 @@ module _ {M : Type 0} (s : Space) (show : Bool) (old new : OpenIndex M) (pinned0
     going = going;
     head = ap (λ (file : OpenFile M). file.head) reads.rest;
     metric = ap (λ (file : OpenFile M). file.metric) reads.rest;
-    tells = reads.same.same_tells;
+    is_known = reads.same.same_known;
     later = reads.later;
     numbers = numbers;
     kept = kept;
@@ -253,7 +253,7 @@ module _ {M : Type 0} (s : Space) (show : Bool) (old new : OpenIndex M) (pinned0
     through = through;
     taken = λ opened goes. let means = means opened goes in (
       means.0,
-      read_taken s show old new.file opened means.0 before after c (plain_answer meant) None meant lawful alone reads goes.sound means.1.0 (none opened goes) tt (unlogged s (held_on old.file before) unasked) refl
+      read_taken s show old new.file opened means.0 before after c (plain_answer meant) None meant valid alone reads goes.sound means.1.0 (none opened goes) tt (unlogged s (held_on old.file before) unasked) refl
           (λ asks. absurd (other asks)),
       record { sound = sound_still s old.file new.file before after reads goes.sound; cursors = means.1.1 },
     );
@@ -266,7 +266,7 @@ module _ {M : Type 0} (s : Space) (show : Bool) (old new : OpenIndex M) (pinned0
     going = tt;
     head = tt;
     metric = tt;
-    tells = reads.same.same_tells;
+    is_known = reads.same.same_known;
     later = reads.later;
     numbers = tt;
     kept = tt;
@@ -276,7 +276,7 @@ module _ {M : Type 0} (s : Space) (show : Bool) (old new : OpenIndex M) (pinned0
     stands = stands;
     through = λ all. tt;
     taken = λ opened goes. tt;
-    moments = λ opened goes. either_reading s old new.file opened before after (step (setting_of s old.file) (state_on old.file before opened) c).state lawful alone reads goes.sound;
+    moments = λ opened goes. either_reading s old new.file opened before after (step (setting_of s old.file) (state_on old.file before opened) c).state valid alone reads goes.sound;
   }
 
 -- ---- the commands `next` and `close`
@@ -290,15 +290,15 @@ close_accepts_none state number None = refl
 close_accepts_none state number (Some c) = refl
 
 module _ {M : Type 0} (s : Space) (show : Bool) (old new : OpenIndex M) (pinned0 pinned1 : PinnedCursors) (before after : DiskState) (c : Command)
-    (lawful : IsLawfulFile s.words old.file) (alone : StandsAlone old before) (going : new.stopped ≡ false) (points : IsTrue (has_points_of s c)) where
+    (valid : IsValidFile s.dimension old.file) (alone : StandsAlone old before) (going : new.stopped ≡ false) (points : IsTrue (has_points_of s c)) where
   executed : (opened : OpenCursors) (d : Command) → c ≡ d → step (setting_of s old.file) (state_on old.file before opened) c ≡ execute (setting_of s old.file) (state_on old.file before opened) d
   executed opened d is = rw points (ap (λ (e : Command). execute (setting_of s old.file) (state_on old.file before opened) e) is)
 
   pub next_carried : (number n : ℕ) (meant : Reply) → OnlyReads old.file new.file before after → c ≡ command.Next number n → pinned1.next ≡ pinned0.next → AreKeptBy s new pinned1 → TagsAre meant →
-      ((opened : OpenCursors) → IsTrue before.tells → StandFor s old before.bytes pinned0 opened → HasAdvanced s new after.bytes pinned1 opened number n meant) → (AllGoThrough old before pinned0 → AllGoThrough new after pinned1) →
+      ((opened : OpenCursors) → IsTrue before.is_known → StandFor s old before.bytes pinned0 opened → HasAdvanced s new after.bytes pinned1 opened number n meant) → (AllGoThrough old before pinned0 → AllGoThrough new after pinned1) →
       HasCarriedOut s show old new pinned0 pinned1 before after c (Ok (plain_answer meant))
   next_carried number n meant reads is next kept tagged advanced through =
-      carried_plain s show old new pinned0 pinned1 before after c lawful alone reads meant going (omega (arith, next)) kept tagged (rw points (rw is refl)) (λ asks. subst IsAsking is asks)
+      carried_plain s show old new pinned0 pinned1 before after c valid alone reads meant going (omega (arith, next)) kept tagged (rw points (rw is refl)) (λ asks. subst IsAsking is asks)
       (λ opened goes. let done = advanced opened goes.sound.0 goes.cursors in
       ap (λ (d : Step). accepts d.reply) (sym (done.meaning (state_on old.file before opened).objects))
       ∙ next_accepts_none (state_on old.file before opened) number n (cursor_named number (state_on old.file before opened)))
@@ -309,7 +309,7 @@ module _ {M : Type 0} (s : Space) (show : Bool) (old new : OpenIndex M) (pinned0
       ((opened : OpenCursors) → StandFor s old before.bytes pinned0 opened → HasClosed s new after.bytes pinned1 opened number meant) → (AllGoThrough old before pinned0 → AllGoThrough new after pinned1) →
       HasCarriedOut s show old new pinned0 pinned1 before after c (Ok (plain_answer meant))
   close_carried number meant reads is next kept tagged closed through =
-      carried_plain s show old new pinned0 pinned1 before after c lawful alone reads meant going (omega (arith, next)) kept tagged (rw points (rw is refl)) (λ asks. subst IsAsking is asks)
+      carried_plain s show old new pinned0 pinned1 before after c valid alone reads meant going (omega (arith, next)) kept tagged (rw points (rw is refl)) (λ asks. subst IsAsking is asks)
       (λ opened goes. let done = closed opened goes.cursors in
       ap (λ (d : Step). accepts d.reply) (sym (done.meaning (state_on old.file before opened).objects))
       ∙ close_accepts_none (state_on old.file before opened) number (cursor_named number (state_on old.file before opened)))

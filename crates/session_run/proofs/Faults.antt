@@ -11,11 +11,11 @@ use Rattle.index_core.specs.Files.{OpenFile}
 use Rattle.session_run.specs.Session.{StandsBy}
 use Rattle.session_run.specs.Steps.{answer_of_fault}
 
-module _ {M : Type 0} (file : OpenFile M) (before after : DiskState) (opens : IsTrue before.tells → OpensTo before.bytes file.head file.live) (told : after.tells ≡ before.tells) where
+module _ {M : Type 0} (file : OpenFile M) (before after : DiskState) (opens : IsTrue before.is_known → OpensTo before.bytes file.head file.live) (told : after.is_known ≡ before.is_known) where
   -- a refusal that blames a page leaves the bytes as they were
   pub blames_stands : (why : IndexFault) → ((f : PageFault) → why ≡ fault.Damaged f → after.bytes ≡ before.bytes) → BlamesDamage file before why → IfErr (answer_of_fault why) (StandsBy file.head after)
-  blames_stands (fault.Damaged f) same blames = λ tells.
-      let now : IsTrue before.tells = subst IsTrue told tells in record {
+  blames_stands (fault.Damaged f) same blames = λ is_known.
+      let now : IsTrue before.is_known = subst IsTrue told is_known in record {
         live = file.live;
         opens = subst (λ (bytes : List ℕ). OpensTo bytes file.head file.live) (sym (same f refl)) (opens now);
         is = subst (λ (bytes : List ℕ). IsDamageOf file.head.dim bytes file.live f) (sym (same f refl)) (blames now);

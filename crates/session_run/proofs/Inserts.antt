@@ -21,7 +21,7 @@ use Rattle.index_core.specs.Answers.{IsSoundOn, points_on, tags_on}
 use Rattle.page_store.specs.Shelf.{IsDamage as IsWalkDamage}
 use Rattle.index_core.specs.Causes.{BlamesNoPage, HasInsertCause, IsPathDamage, offered_pages}
 use Rattle.index_core.specs.Damage.{BlamesDamage}
-use Rattle.index_core.specs.Files.{IsLawfulFile, nodes_on}
+use Rattle.index_core.specs.Files.{IsValidFile, nodes_on}
 use Rattle.index_core.specs.Index.{OpenIndex, StandsAlone}
 use Rattle.index_core.specs.Writing.{Inserts, HasWritten}
 use Rattle.session_run.specs.Session.{IsDamage, setting_of, state_on}
@@ -58,8 +58,8 @@ few_of n count limit is most other = grind arith
 none_of : (n count limit : ℕ) → n ≡ count → count ≡ limit → nat_lt n limit ≡ false
 none_of n count limit is all = grind arith
 
-module _ {M : Type 0} (s : Space) (show : Bool) (old new : OpenIndex M) (cursors : OpenCursors) (before after : DiskState) (c : Command) (lawful : IsLawfulFile s.words old.file) (alone : StandsAlone old before)
-    (going : old.stopped ≡ false) (told : after.tells ≡ before.tells) (later : before.faults ≤ after.faults) where
+module _ {M : Type 0} (s : Space) (show : Bool) (old new : OpenIndex M) (cursors : OpenCursors) (before after : DiskState) (c : Command) (valid : IsValidFile s.dimension old.file) (alone : StandsAlone old before)
+    (going : old.stopped ≡ false) (told : after.is_known ≡ before.is_known) (later : before.faults ≤ after.faults) where
   pub count_is : length (points_on old.file before) ≡ old.file.live.count
   count_is = length-points (objects (nodes_on old.file before) old.file.live) 0 old.file.live.count
 
@@ -94,7 +94,7 @@ module _ {M : Type 0} (s : Space) (show : Bool) (old new : OpenIndex M) (cursors
       step (setting_of s old.file) (state_on old.file before cursors) c ≡ insert_step old.file.head.limit (state_on old.file before cursors) point tag →
       HasStepped s show old new cursors cursors before after c (written_answer (λ id. reply.Id id) result)
   insert_stepped point tag result written full worn cause undamaged blames writes unasked meaning =
-      write_stepped s show old new cursors before after c (Inserts point tag) (λ id. reply.Id id) lawful alone going result written (record {
+      write_stepped s show old new cursors before after c (Inserts point tag) (λ id. reply.Id id) valid alone going result written (record {
         writes = writes;
         unasked = unasked;
         accepting = λ room filled. meaning ∙ accepted (few (λ e. room (full.1 e)));
@@ -106,12 +106,12 @@ module _ {M : Type 0} (s : Space) (show : Bool) (old new : OpenIndex M) (cursors
         stands = result_stands old.file before after alone.stands.opens told result same blames;
         accepts_says = λ n. refl;
         tags_says = λ n. tt;
-        tells = told;
+        is_known = told;
         later = later;
       })
     where
       few : (old.file.live.count ≢ old.file.head.limit) → nat_lt (length (points_on old.file before)) old.file.head.limit ≡ true
-      few less = few_of (length (points_on old.file before)) old.file.live.count old.file.head.limit count_is lawful.live.1.count less
+      few less = few_of (length (points_on old.file before)) old.file.live.count old.file.head.limit count_is valid.live.1.count less
 
       accepted : nat_lt (length (points_on old.file before)) old.file.head.limit ≡ true →
           insert_step old.file.head.limit (state_on old.file before cursors) point tag ≡ record {

@@ -24,7 +24,7 @@ use Rattle.tree_shape.specs.declared.live.Live.{Live}
 use Rattle.tree_shape.specs.Tree.{IsSoundTree}
 use Rattle.index_core.specs.Answers.{IsSoundOn}
 use Rattle.metric_laws.specs.Space.{Space}
-use Rattle.index_core.specs.Files.{IsLawfulFile, nodes_on}
+use Rattle.index_core.specs.Files.{IsValidFile, nodes_on}
 use Rattle.index_core.specs.Index.{OpenIndex, StandsAlone}
 use Rattle.index_core.proofs.Published.{holds}
 use Rattle.session_run.proofs.Reading.{objects_on}
@@ -166,10 +166,10 @@ module _ (show : Bool) (asked : ℕ → List Command) (head : Head) (live : Live
 
 -- why it ended, on any file
 pub finished : (Sound : Type 0) (head : Head) (disk0 disk1 : DiskState) (out0 out1 out2 log0 log1 : SinkState) (why : SessionStop) (status : ℕ) → out1.faults ≤ out2.faults → HasEnded why out1 out2 status →
-    HasStopCause Sound disk0 disk1 out0 out1 log0 log1 why → StandsBy head disk1 why → disk1.tells ≡ disk0.tells → Grew out0 out1 → out0.faults ≤ out1.faults → HasFinished head disk0 disk1 out0 out2 log0 log1 status
+    HasStopCause Sound disk0 disk1 out0 out1 log0 log1 why → StandsBy head disk1 why → disk1.is_known ≡ disk0.is_known → Grew out0 out1 → out0.faults ≤ out1.faults → HasFinished head disk0 disk1 out0 out2 log0 log1 status
 finished Sound head disk0 disk1 out0 out1 out2 log0 log1 stop.Sink status later ended cause stands told grew grown = record {
   lines = none_told status out0 out2 (λ e. omega (arith, ended.0, e)) (λ e. omega (arith, ended.0, e)) (λ e. omega (arith, ended.0, e)) (λ e. omega (arith, ended.0, e));
-  tells = told;
+  is_known = told;
   output = λ e. rw ended.1 cause;
   disk = λ e. absurd (omega (arith, ended.0));
   damaged = λ e. absurd (omega (arith, ended.0));
@@ -177,7 +177,7 @@ finished Sound head disk0 disk1 out0 out1 out2 log0 log1 stop.Sink status later 
 }
 finished Sound head disk0 disk1 out0 out1 out2 log0 log1 stop.Disk status later ended cause stands told grew grown = record {
   lines = disk_told status out0 out2 ended.0 (record { mid = out1; bytes = grew.0; grew = grew.1; later = grown; told = ended.1 });
-  tells = told;
+  is_known = told;
   output = λ e. absurd (omega (arith, ended.0));
   disk = λ e. cause;
   damaged = λ e. absurd (omega (arith, ended.0));
@@ -185,7 +185,7 @@ finished Sound head disk0 disk1 out0 out1 out2 log0 log1 stop.Disk status later 
 }
 finished Sound head disk0 disk1 out0 out1 out2 log0 log1 stop.Memory status later ended cause stands told grew grown = record {
   lines = memory_told status out0 out2 ended.0 (record { mid = out1; bytes = grew.0; grew = grew.1; later = grown; told = ended.1 });
-  tells = told;
+  is_known = told;
   output = λ e. absurd (omega (arith, ended.0));
   disk = λ e. absurd (omega (arith, ended.0));
   damaged = λ e. absurd (omega (arith, ended.0));
@@ -193,7 +193,7 @@ finished Sound head disk0 disk1 out0 out1 out2 log0 log1 stop.Memory status late
 }
 finished Sound head disk0 disk1 out0 out1 out2 log0 log1 (stop.Damaged fault) status later (inl ended) cause stands told grew grown = record {
   lines = none_told status out0 out2 (λ e. omega (arith, ended.0, e)) (λ e. omega (arith, ended.0, e)) (λ e. omega (arith, ended.0, e)) (λ e. omega (arith, ended.0, e));
-  tells = told;
+  is_known = told;
   output = λ e. absurd (omega (arith, ended.0));
   disk = λ e. absurd (omega (arith, ended.0));
   damaged = λ e. record { fault = fault; is = cause.0; stands = stands; line = record { mid = out1; bytes = grew.0; grew = grew.1; later = grown; told = ended.1 } };
@@ -201,7 +201,7 @@ finished Sound head disk0 disk1 out0 out1 out2 log0 log1 (stop.Damaged fault) st
 }
 finished Sound head disk0 disk1 out0 out1 out2 log0 log1 (stop.Damaged fault) status later (inr ended) cause stands told grew grown = record {
   lines = memory_told status out0 out2 ended.0 (record { mid = out1; bytes = grew.0; grew = grew.1; later = grown; told = ended.1 });
-  tells = told;
+  is_known = told;
   output = λ e. absurd (omega (arith, ended.0));
   disk = λ e. absurd (omega (arith, ended.0));
   damaged = λ e. absurd (omega (arith, ended.0));
@@ -209,9 +209,9 @@ finished Sound head disk0 disk1 out0 out1 out2 log0 log1 (stop.Damaged fault) st
 }
 
 -- it was not stopped
-pub done_finished : (head : Head) (disk0 disk1 : DiskState) (out0 out1 log0 log1 : SinkState) → disk1.tells ≡ disk0.tells → HasFinished head disk0 disk1 out0 out1 log0 log1 0
+pub done_finished : (head : Head) (disk0 disk1 : DiskState) (out0 out1 log0 log1 : SinkState) → disk1.is_known ≡ disk0.is_known → HasFinished head disk0 disk1 out0 out1 log0 log1 0
 done_finished head disk0 disk1 out0 out1 log0 log1 told = record {
-  tells = told;
+  is_known = told;
   output = λ e. absurd (omega (arith, e));
   disk = λ e. absurd (omega (arith, e));
   damaged = λ e. absurd (omega (arith, e));
@@ -222,7 +222,7 @@ done_finished head disk0 disk1 out0 out1 log0 log1 told = record {
 -- there was no memory for it
 pub memory_finished : (head : Head) (disk : DiskState) (out0 out1 log : SinkState) (status : ℕ) → status ≡ 8 → Tells out0 out1 (codes "fault memory\n") → HasFinished head disk disk out0 out1 log log status
 memory_finished head disk out0 out1 log status is told = record {
-  tells = refl;
+  is_known = refl;
   output = λ e. absurd (omega (arith, e, is));
   disk = λ e. absurd (omega (arith, e, is));
   damaged = λ e. absurd (omega (arith, e, is));
@@ -232,30 +232,30 @@ memory_finished head disk out0 out1 log status is told = record {
 
 -- ---- on an opened index
 
-is_left : {M : Type 0} (new : OpenIndex M) (disk1 : DiskState) (head : Head) → new.file.head ≡ head → StandsAlone new disk1 → IsTrue disk1.tells → IsLeft head (held_on new.file disk1) disk1
-is_left new disk1 head same alone tells = subst (λ (h : Head). IsLeft h (held_on new.file disk1) disk1) same (record { opens = alone.stands.opens tells; nodes = refl; only = alone.only tells })
+is_left : {M : Type 0} (new : OpenIndex M) (disk1 : DiskState) (head : Head) → new.file.head ≡ head → StandsAlone new disk1 → IsTrue disk1.is_known → IsLeft head (held_on new.file disk1) disk1
+is_left new disk1 head same alone is_known = subst (λ (h : Head). IsLeft h (held_on new.file disk1) disk1) same (record { opens = alone.stands.opens is_known; nodes = refl; only = alone.only is_known })
 
 module _ {M : Type 0} (show : Bool) (asked : ℕ → List Command) (old new : OpenIndex M) (disk0 disk1 : DiskState) (out0 out1 log0 log1 : SinkState) (commands : List Command) (ack : ℕ)
-    (script_is : commands ≡ asked old.file.head.dim) (later : out0.faults ≤ out1.faults) (told : disk1.tells ≡ disk0.tells) where
+    (script_is : commands ≡ asked old.file.head.dim) (later : out0.faults ≤ out1.faults) (told : disk1.is_known ≡ disk0.is_known) where
   pub opened_done : (IsSoundOn (space_of old.file.head) old.file disk0 →
       HasRun (setting_of (space_of old.file.head) old.file) old.file.head show commands (state_on old.file disk0 no_cursors) (held_on old.file disk0) disk0 disk1 out0 out1 log0 log1 ack None (held_on new.file disk1)) →
-      new.file.head ≡ old.file.head → StandsAlone new disk1 → IsTrue disk0.tells → IsSoundTree (space_of old.file.head) (nodes_on old.file disk0) old.file.live →
+      new.file.head ≡ old.file.head → StandsAlone new disk1 → IsTrue disk0.is_known → IsSoundTree (space_of old.file.head) (nodes_on old.file disk0) old.file.live →
       RunsOn (LeavesAll old.file.head (state_in old.file.head old.file.live disk0.bytes) disk0 disk1) show asked old.file.head old.file.live disk0.bytes disk1 out0 out1 log0 log1 0
-  opened_done run same alone tells sound =
-      done_runs show asked old.file.head old.file.live disk0.bytes disk0 disk1 out0 out1 log0 log1 commands ack (held_on new.file disk1) script_is later (run (tells, sound))
-      (is_left new disk1 old.file.head same alone (rw told tells))
+  opened_done run same alone is_known sound =
+      done_runs show asked old.file.head old.file.live disk0.bytes disk0 disk1 out0 out1 log0 log1 commands ack (held_on new.file disk1) script_is later (run (is_known, sound))
+      (is_left new disk1 old.file.head same alone (rw told is_known))
 
   pub opened_stopped : (out2 : SinkState) (why : SessionStop) (status : ℕ) → (IsSoundOn (space_of old.file.head) old.file disk0 →
       HasRun (setting_of (space_of old.file.head) old.file) old.file.head show commands (state_on old.file disk0 no_cursors) (held_on old.file disk0) disk0 disk1 out0 out1 log0 log1 ack (Some why)
       (held_on new.file disk1)) → HasEnded why out1 out2 status → HasStopCause (IsSoundOn (space_of old.file.head) old.file disk0) disk0 disk1 out0 out1 log0 log1 why →
-      IsTrue disk0.tells → IsSoundTree (space_of old.file.head) (nodes_on old.file disk0) old.file.live →
+      IsTrue disk0.is_known → IsSoundTree (space_of old.file.head) (nodes_on old.file disk0) old.file.live →
       RunsOn (LeavesAll old.file.head (state_in old.file.head old.file.live disk0.bytes) disk0 disk1) show asked old.file.head old.file.live disk0.bytes disk1 out0 out2 log0 log1 status
-  opened_stopped out2 why status run ended cause tells sound =
+  opened_stopped out2 why status run ended cause is_known sound =
       stopped_runs show asked old.file.head old.file.live disk0.bytes disk0 disk1 out0 out1 log0 log1 commands ack (held_on new.file disk1) script_is later (IsSoundOn (space_of old.file.head) old.file disk0) out2 why status
-      (run (tells, sound)) ended cause (tells, sound)
+      (run (is_known, sound)) ended cause (is_known, sound)
 
 module _ {M : Type 0} (s : Space) (show : Bool) (asked : ℕ → List Command) (old new : OpenIndex M) (disk0 disk1 : DiskState) (out0 out1 log0 log1 : SinkState) (commands : List Command) (ack : ℕ) (ended : Option SessionStop)
-    (same : s ≡ space_of old.file.head) (script_is : commands ≡ asked old.file.head.dim) (later : out0.faults ≤ out1.faults) (told : disk1.tells ≡ disk0.tells)
+    (same : s ≡ space_of old.file.head) (script_is : commands ≡ asked old.file.head.dim) (later : out0.faults ≤ out1.faults) (told : disk1.is_known ≡ disk0.is_known)
     (run : IsSoundOn s old.file disk0 →
     HasRun (setting_of s old.file) old.file.head show commands (state_on old.file disk0 no_cursors) (held_on old.file disk0) disk0 disk1 out0 out1 log0 log1 ack ended (held_on new.file disk1)) where
   run_in : (e : Option SessionStop) → ended ≡ e → IsSoundOn (space_of old.file.head) old.file disk0 →
@@ -266,20 +266,20 @@ module _ {M : Type 0} (s : Space) (show : Bool) (asked : ℕ → List Command) (
       (subst (λ (x : Space). IsSoundOn x old.file disk0 →
       HasRun (setting_of x old.file) old.file.head show commands (state_on old.file disk0 no_cursors) (held_on old.file disk0) disk0 disk1 out0 out1 log0 log1 ack ended (held_on new.file disk1)) same run)
 
-  pub is_done : ended ≡ None → new.file.head ≡ old.file.head → StandsAlone new disk1 → IsTrue disk0.tells → IsSoundTree (space_of old.file.head) (nodes_on old.file disk0) old.file.live →
+  pub is_done : ended ≡ None → new.file.head ≡ old.file.head → StandsAlone new disk1 → IsTrue disk0.is_known → IsSoundTree (space_of old.file.head) (nodes_on old.file disk0) old.file.live →
       RunsOn (LeavesAll old.file.head (state_in old.file.head old.file.live disk0.bytes) disk0 disk1) show asked old.file.head old.file.live disk0.bytes disk1 out0 out1 log0 log1 0
-  is_done is same_head alone tells sound = opened_done show asked old new disk0 disk1 out0 out1 log0 log1 commands ack script_is later told (run_in None is) same_head alone tells sound
+  is_done is same_head alone is_known sound = opened_done show asked old new disk0 disk1 out0 out1 log0 log1 commands ack script_is later told (run_in None is) same_head alone is_known sound
 
   pub is_stopped : (out2 : SinkState) (why : SessionStop) (status : ℕ) → ended ≡ Some why → HasEnded why out1 out2 status →
-      MatchOption ended (Unit {0}) (HasStopCause (IsSoundOn s old.file disk0) disk0 disk1 out0 out1 log0 log1) → IsTrue disk0.tells → IsSoundTree (space_of old.file.head) (nodes_on old.file disk0) old.file.live →
+      MatchOption ended (Unit {0}) (HasStopCause (IsSoundOn s old.file disk0) disk0 disk1 out0 out1 log0 log1) → IsTrue disk0.is_known → IsSoundTree (space_of old.file.head) (nodes_on old.file disk0) old.file.live →
       RunsOn (LeavesAll old.file.head (state_in old.file.head old.file.live disk0.bytes) disk0 disk1) show asked old.file.head old.file.live disk0.bytes disk1 out0 out2 log0 log1 status
-  is_stopped out2 why status is end cause tells sound =
+  is_stopped out2 why status is end cause is_known sound =
       opened_stopped show asked old new disk0 disk1 out0 out1 log0 log1 commands ack script_is later told out2 why status (run_in (Some why) is) end
-      (subst (λ (x : Space). HasStopCause (IsSoundOn x old.file disk0) disk0 disk1 out0 out1 log0 log1 why) same (rw is at cause)) tells sound
+      (subst (λ (x : Space). HasStopCause (IsSoundOn x old.file disk0) disk0 disk1 out0 out1 log0 log1 why) same (rw is at cause)) is_known sound
 
   -- few pages were read
-  pub few_read : ended ≡ None → IsTrue disk0.tells → IsSoundTree (space_of old.file.head) (nodes_on old.file disk0) old.file.live → AllByRecursion IsAsking (asked old.file.head.dim) → ReadsFew 0 show disk0 disk1 log0 log1
-  few_read is tells sound asks = record {
+  pub few_read : ended ≡ None → IsTrue disk0.is_known → IsSoundTree (space_of old.file.head) (nodes_on old.file disk0) old.file.live → AllByRecursion IsAsking (asked old.file.head.dim) → ReadsFew 0 show disk0 disk1 log0 log1
+  few_read is is_known sound asks = record {
     logs = logs_of (answers_of ran.turns);
     logged = subst (λ (l : List ℕ). Appends log0.written log1.written l) (append-nil (framed (logs_of (answers_of ran.turns))))
         (subst (λ (rest : List ℕ). Appends log0.written log1.written (framed (logs_of (answers_of ran.turns)) ++ rest)) ran.ends.2 ran.logged);
@@ -287,7 +287,7 @@ module _ {M : Type 0} (s : Space) (show : Bool) (asked : ℕ → List Command) (
   }
     where
       ran : HasRun (setting_of (space_of old.file.head) old.file) old.file.head show commands (state_on old.file disk0 no_cursors) (held_on old.file disk0) disk0 disk1 out0 out1 log0 log1 ack None (held_on new.file disk1)
-      ran = run_in None is (tells, sound)
+      ran = run_in None is (is_known, sound)
 
 -- a session that was stopped is not done
 pub not_done : (why : SessionStop) (out0 out1 : SinkState) (status : ℕ) → HasEnded why out0 out1 status → status ≢ 0
@@ -298,12 +298,12 @@ not_done (stop.Damaged fault) out0 out1 status (inl ended) is = omega (arith, en
 not_done (stop.Damaged fault) out0 out1 status (inr ended) is = omega (arith, ended.0, is)
 
 -- what a crash leaves that comes before the first command
-pub held : {M : Type 0} (index : OpenIndex M) (disk : DiskState) (words : ℕ) → words ≡ index.file.head.dim → IsLawfulFile words index.file → StandsAlone index disk → IsTrue disk.tells →
+pub held : {M : Type 0} (index : OpenIndex M) (disk : DiskState) (dimension : ℕ) → dimension ≡ index.file.head.dim → IsValidFile dimension index.file → StandsAlone index disk → IsTrue disk.is_known →
     IsSoundTree (space_of index.file.head) (nodes_on index.file disk) index.file.live → (image : List ℕ) → MayLeave disk image →
     HoldsState (space_of index.file.head) index.file.head (state_in index.file.head index.file.live disk.bytes) image
-held index disk words same lawful alone tells sound image left =
-    subst (λ (file : List ℕ). HoldsState (space_of index.file.head) index.file.head (state_in index.file.head index.file.live disk.bytes) file) (sym (alone.only tells image left))
-    (holds (space_of index.file.head) index.file disk _ _ (subst (λ (w : ℕ). IsLawfulFile w index.file) same lawful) alone.stands (objects_on (space_of index.file.head) index.file disk (tells, sound)))
+held index disk dimension same valid alone is_known sound image left =
+    subst (λ (file : List ℕ). HoldsState (space_of index.file.head) index.file.head (state_in index.file.head index.file.live disk.bytes) file) (sym (alone.only is_known image left))
+    (holds (space_of index.file.head) index.file disk _ _ (subst (λ (w : ℕ). IsValidFile w index.file) same valid) alone.stands (objects_on (space_of index.file.head) index.file disk (is_known, sound)))
 
 -- nothing was done: the line of a fault is all that was put
 pub unread : (show : Bool) (asked : ℕ → List Command) (head : Head) (live : Live) (file : List ℕ) (disk0 disk1 : DiskState) (out0 out1 log : SinkState) (line : List ℕ) (Left : List Turn → List Command → Type 0) →
@@ -350,11 +350,11 @@ opening disk0 disk1 disk2 same time = joined disk0 disk1 disk2 (MayLeave disk0) 
 -- the index is not opened at all
 pub refused_runs : FaultIsNotOpen → OneLiveSlot → (show : Bool) (asked : ℕ → List Command) (disk0 disk1 : DiskState) (out0 out1 log : SinkState) (status : ℕ) → IsUnchanged disk0 disk1 → Refuses disk0 disk1 out0 out1 status →
     RunsAsked show asked disk0 disk1 out0 out1 log log status
-refused_runs faults one show asked disk0 disk1 out0 out1 log status same refuses tells head live sound = elim refuses.statuses [
+refused_runs faults one show asked disk0 disk1 out0 out1 log status same refuses is_known head live sound = elim refuses.statuses [
   | inl five ↦
       unread show asked head live disk0.bytes disk0 disk1 out0 out1 log (codes "fault disk\n") (Leaves head (state_in head live disk0.bytes) disk0 disk1) (refuses.disk five).1 (inl (refl, same.time)) status
       (λ rest line. disk_ends (Rose out0.faults out1.faults) _ (asked head.dim) rest [] status five line) (λ e. absurd (omega arith))
-  | inr six ↦ let named = refuses.not_index six in absurd (no_index_unsound faults one disk0.bytes named.0 (named.2 tells) head live sound)
+  | inr six ↦ let named = refuses.not_index six in absurd (no_index_unsound faults one disk0.bytes named.0 (named.2 is_known) head live sound)
 ]
 
 pub refused_ends : (disk0 disk1 : DiskState) (out0 out1 log : SinkState) (status : ℕ) → Refuses disk0 disk1 out0 out1 status → HasRefused disk0 disk1 out0 out1 log log status
@@ -393,31 +393,31 @@ memory_ends_it disk0 disk1 out0 out1 log status is told = record {
 -- a session that is refused while it opens the index puts only a line
 pub memory_runs : (show : Bool) (asked : ℕ → List Command) (disk0 disk1 disk2 : DiskState) (out0 out1 log : SinkState) (status : ℕ) → IsUnchanged disk0 disk1 → EachImage disk1 disk2 (MayLeave disk1) → status ≡ 8 →
     Tells out0 out1 (codes "fault memory\n") → RunsAsked show asked disk0 disk2 out0 out1 log log status
-memory_runs show asked disk0 disk1 disk2 out0 out1 log status same time eight told tells head live sound =
+memory_runs show asked disk0 disk1 disk2 out0 out1 log status same time eight told is_known head live sound =
     unread show asked head live disk0.bytes disk0 disk2 out0 out1 log (codes "fault memory\n") (Leaves head (state_in head live disk0.bytes) disk0 disk2) told (inl (refl, opening disk0 disk1 disk2 same time)) status
     (λ rest line. memory_ends (Rose out0.faults out1.faults) _ (asked head.dim) rest [] status eight line) (λ e. absurd (omega arith))
 
-module _ (faults : FaultIsNotOpen) (one : OneLiveSlot) (show : Bool) (asked : ℕ → List Command) (disk0 disk1 disk2 : DiskState) (out0 out1 log : SinkState) (words status : ℕ) (why : OpenFault) (opened : Head × Live)
-    (same : IsUnchanged disk0 disk1) (later : disk0.faults ≤ disk1.faults) (opens : IsTrue disk0.tells → OpensTo disk0.bytes opened.0 opened.1) (version : opened.0.version ≡ 2) (dim : words ≡ opened.0.dim)
-    (cause : HasReaderCause words disk1 disk2 why) (five : status ≡ 5 → why ≡ fault.Disk) (six : status ≡ 6 → why ≢ fault.Disk) (line : Tells out0 out1 (unopened_text why)) (statuses : (status ≡ 5) ⊎ (status ≡ 6)) where
-  told : IsTrue disk0.tells → IsTrue disk1.tells
-  told tells = rw same.same_tells tells
+module _ (faults : FaultIsNotOpen) (one : OneLiveSlot) (show : Bool) (asked : ℕ → List Command) (disk0 disk1 disk2 : DiskState) (out0 out1 log : SinkState) (dimension status : ℕ) (why : OpenFault) (opened : Head × Live)
+    (same : IsUnchanged disk0 disk1) (later : disk0.faults ≤ disk1.faults) (opens : IsTrue disk0.is_known → OpensTo disk0.bytes opened.0 opened.1) (version : opened.0.version ≡ 2) (dim : dimension ≡ opened.0.dim)
+    (cause : HasReaderCause dimension disk1 disk2 why) (five : status ≡ 5 → why ≡ fault.Disk) (six : status ≡ 6 → why ≢ fault.Disk) (line : Tells out0 out1 (unopened_text why)) (statuses : (status ≡ 5) ⊎ (status ≡ 6)) where
+  told : IsTrue disk0.is_known → IsTrue disk1.is_known
+  told is_known = rw same.same_known is_known
 
   still : (P : List ℕ → Type 0) → P disk1.bytes → P disk0.bytes
   still P p = subst P same.same_bytes p
 
   -- bytes that open to an index of version 2 with such points are opened, unless the disk fails
-  never : IsTrue disk0.tells → why ≢ fault.Disk → ⊥
-  never tells other = elim cause [
+  never : IsTrue disk0.is_known → why ≢ fault.Disk → ⊥
+  never is_known other = elim cause [
     | inl first ↦
-        let named = (no_index disk1 disk2 why other first).2 (told tells) in
-        no_version (opens tells) version (still (λ (b : List ℕ). IsNoIndex b (no_index disk1 disk2 why other first).0) named)
+        let named = (no_index disk1 disk2 why other first).2 (told is_known) in
+        no_version (opens is_known) version (still (λ (b : List ℕ). IsNoIndex b (no_index disk1 disk2 why other first).0) named)
     | inr rest ↦ elim rest [
-      | inl old ↦ let (h, l, is, v) = old.1 (told tells) in
-          let e = one disk0.bytes opened.0 h opened.1 l (opens tells) (still (λ (b : List ℕ). OpensTo b h l) is) in
+      | inl old ↦ let (h, l, is, v) = old.1 (told is_known) in
+          let e = one disk0.bytes opened.0 h opened.1 l (opens is_known) (still (λ (b : List ℕ). OpensTo b h l) is) in
           absurd (omega (arith, ap (λ (x : Head). x.version) e.0, version, v))
-      | inr wide ↦ let (h, l, is, v) = wide.1 (told tells) in
-          let e = one disk0.bytes opened.0 h opened.1 l (opens tells) (still (λ (b : List ℕ). OpensTo b h l) is) in
+      | inr wide ↦ let (h, l, is, v) = wide.1 (told is_known) in
+          let e = one disk0.bytes opened.0 h opened.1 l (opens is_known) (still (λ (b : List ℕ). OpensTo b h l) is) in
           v.1 (ap (λ (x : Head). x.dim) (sym e.0) ∙ sym dim)
     ]
   ]
@@ -427,19 +427,19 @@ module _ (faults : FaultIsNotOpen) (one : OneLiveSlot) (show : Bool) (asked : �
       no_version is v (inr (h, l, other, old, named)) = let e = one disk0.bytes opened.0 h opened.1 l is other in omega (arith, ap (λ (x : Head). x.version) e.0, v, old)
 
   pub unopened_runs : EachImage disk1 disk2 (MayLeave disk1) → RunsAsked show asked disk0 disk2 out0 out1 log log status
-  unopened_runs time tells head live sound = elim statuses [
+  unopened_runs time is_known head live sound = elim statuses [
     | inl is ↦
         unread show asked head live disk0.bytes disk0 disk2 out0 out1 log (codes "fault disk\n") (Leaves head (state_in head live disk0.bytes) disk0 disk2)
         (subst (λ (w : OpenFault). Tells out0 out1 (unopened_text w)) (five is) line) (inl (refl, opening disk0 disk1 disk2 same time)) status
         (λ rest line. disk_ends (Rose out0.faults out1.faults) _ (asked head.dim) rest [] status is line) (λ e. absurd (omega arith))
-    | inr is ↦ absurd (never tells (six is))
+    | inr is ↦ absurd (never is_known (six is))
   ]
 
   pub unopened_ends : HasRefused disk0 disk2 out0 out1 log log status
   unopened_ends = record {
     output = λ e. elim statuses [ inl is ↦ absurd (omega arith) | inr is ↦ absurd (omega arith) ];
     disk = λ is. rose_of (five is) cause;
-    not_index = λ is. (named why (six is), subst (Tells out0 out1) (text_of why (six is)) line, λ tells. absurd (never tells (six is)));
+    not_index = λ is. (named why (six is), subst (Tells out0 out1) (text_of why (six is)) line, λ is_known. absurd (never is_known (six is)));
     damaged = λ e. elim statuses [ inl is ↦ absurd (omega arith) | inr is ↦ absurd (omega arith) ];
     lines = elim statuses [
       | inl is ↦ disk_told status out0 out1 is (line_alone out0 out1 (codes "fault disk\n") (subst (λ (w : OpenFault). Tells out0 out1 (unopened_text w)) (five is) line))
@@ -452,7 +452,7 @@ module _ (faults : FaultIsNotOpen) (one : OneLiveSlot) (show : Bool) (asked : �
     statuses = elim statuses [ inl is ↦ inr (inr (inl is)) | inr is ↦ inr (inr (inr (inl is))) ];
   }
     where
-      rose_of : why ≡ fault.Disk → HasReaderCause words disk1 disk2 why → Rose disk0.faults disk2.faults
+      rose_of : why ≡ fault.Disk → HasReaderCause dimension disk1 disk2 why → Rose disk0.faults disk2.faults
       rose_of is (inl first) = rose_before _ _ _ later (rose_by_disk disk1 disk2 why is first)
       rose_of is (inr (inl old)) = absurd (let e = sym is ∙ old.0 in cc)
       rose_of is (inr (inr wide)) = absurd (let e = sym is ∙ wide.0 in cc)
@@ -474,14 +474,14 @@ module _ (faults : FaultIsNotOpen) (one : OneLiveSlot) (show : Bool) (asked : �
       text_of fault.Slot other = refl
 
 -- the index that was opened is that of the file as it was before
-module _ {M : Type 0} (one : OneLiveSlot) (index : OpenIndex M) (opened : Head × Live) (disk0 disk1 disk2 : DiskState) (same : IsUnchanged disk0 disk1) (bytes_same : disk2.bytes ≡ disk1.bytes) (tells_same : disk2.tells ≡ disk1.tells)
-    (reopens : IsTrue disk2.tells → OpensTo disk2.bytes index.file.head index.file.live) (opens : IsTrue disk0.tells → OpensTo disk0.bytes opened.0 opened.1) (tells : IsTrue disk0.tells)
+module _ {M : Type 0} (one : OneLiveSlot) (index : OpenIndex M) (opened : Head × Live) (disk0 disk1 disk2 : DiskState) (same : IsUnchanged disk0 disk1) (bytes_same : disk2.bytes ≡ disk1.bytes) (known_same : disk2.is_known ≡ disk1.is_known)
+    (reopens : IsTrue disk2.is_known → OpensTo disk2.bytes index.file.head index.file.live) (opens : IsTrue disk0.is_known → OpensTo disk0.bytes opened.0 opened.1) (is_known : IsTrue disk0.is_known)
     (head : Head) (live : Live) (is : OpensTo disk0.bytes head live) where
   bytes_are : disk2.bytes ≡ disk0.bytes
   bytes_are = bytes_same ∙ same.same_bytes
 
-  told_on : IsTrue disk2.tells
-  told_on = rw (tells_same, same.same_tells) tells
+  told_on : IsTrue disk2.is_known
+  told_on = rw (known_same, same.same_known) is_known
 
   opens_here : OpensTo disk0.bytes index.file.head index.file.live
   opens_here = subst (λ (b : List ℕ). OpensTo b index.file.head index.file.live) bytes_are (reopens told_on)
@@ -493,29 +493,29 @@ module _ {M : Type 0} (one : OneLiveSlot) (index : OpenIndex M) (opened : Head �
   live_is = (one disk0.bytes index.file.head head index.file.live live opens_here is).1
 
   opened_is : opened.0 ≡ index.file.head
-  opened_is = (one disk0.bytes opened.0 index.file.head opened.1 index.file.live (opens tells) opens_here).0
+  opened_is = (one disk0.bytes opened.0 index.file.head opened.1 index.file.live (opens is_known) opens_here).0
 
 -- a session on the opened index, said of the file as it was before
 module _ {M : Type 0} (kind_of dim_of : M → ℕ) (one : OneLiveSlot) (show : Bool) (asked : ℕ → List Command) (index : OpenIndex M) (opened : Head × Live) (disk0 disk1 disk2 disk3 : DiskState) (out0 out1 log0 log1 : SinkState) (status : ℕ)
-    (same : IsUnchanged disk0 disk1) (time : EachImage disk1 disk2 (MayLeave disk1)) (bytes_same : disk2.bytes ≡ disk1.bytes) (tells_same : disk2.tells ≡ disk1.tells)
-    (reopens : IsTrue disk2.tells → OpensTo disk2.bytes index.file.head index.file.live) (opens : IsTrue disk0.tells → OpensTo disk0.bytes opened.0 opened.1)
+    (same : IsUnchanged disk0 disk1) (time : EachImage disk1 disk2 (MayLeave disk1)) (bytes_same : disk2.bytes ≡ disk1.bytes) (known_same : disk2.is_known ≡ disk1.is_known)
+    (reopens : IsTrue disk2.is_known → OpensTo disk2.bytes index.file.head index.file.live) (opens : IsTrue disk0.is_known → OpensTo disk0.bytes opened.0 opened.1)
     (kind : kind_of index.file.metric ≡ opened.0.kind) (dim : dim_of index.file.metric ≡ opened.0.dim) where
   -- what holds for the opened index holds for the file
-  said_before : (Asks : ℕ → Type 0) (Said : Head → Live → List ℕ → Type 0) (head : Head) (live : Live) → IsTrue disk0.tells → IsSoundFile (space_of head) head live disk0.bytes → Asks head.dim →
-      (IsTrue disk2.tells → kind_of index.file.metric ≡ index.file.head.kind → dim_of index.file.metric ≡ index.file.head.dim → IsSoundTree (space_of index.file.head) (nodes_on index.file disk2) index.file.live →
+  said_before : (Asks : ℕ → Type 0) (Said : Head → Live → List ℕ → Type 0) (head : Head) (live : Live) → IsTrue disk0.is_known → IsSoundFile (space_of head) head live disk0.bytes → Asks head.dim →
+      (IsTrue disk2.is_known → kind_of index.file.metric ≡ index.file.head.kind → dim_of index.file.metric ≡ index.file.head.dim → IsSoundTree (space_of index.file.head) (nodes_on index.file disk2) index.file.live →
       Asks index.file.head.dim → Said index.file.head index.file.live disk2.bytes) → Said head live disk0.bytes
-  said_before Asks Said head live tells sound asks run =
-      moved index.file.head index.file.live disk2.bytes head_here live_here (bytes_are one index opened disk0 disk1 disk2 same bytes_same tells_same reopens opens tells head live sound.opens)
-      (run (told_on one index opened disk0 disk1 disk2 same bytes_same tells_same reopens opens tells head live sound.opens) (kind ∙ ap (λ (h : Head). h.kind) opened_here) (dim ∙ ap (λ (h : Head). h.dim) opened_here))
+  said_before Asks Said head live is_known sound asks run =
+      moved index.file.head index.file.live disk2.bytes head_here live_here (bytes_are one index opened disk0 disk1 disk2 same bytes_same known_same reopens opens is_known head live sound.opens)
+      (run (told_on one index opened disk0 disk1 disk2 same bytes_same known_same reopens opens is_known head live sound.opens) (kind ∙ ap (λ (h : Head). h.kind) opened_here) (dim ∙ ap (λ (h : Head). h.dim) opened_here))
     where
       head_here : index.file.head ≡ head
-      head_here = head_is one index opened disk0 disk1 disk2 same bytes_same tells_same reopens opens tells head live sound.opens
+      head_here = head_is one index opened disk0 disk1 disk2 same bytes_same known_same reopens opens is_known head live sound.opens
 
       live_here : index.file.live ≡ live
-      live_here = live_is one index opened disk0 disk1 disk2 same bytes_same tells_same reopens opens tells head live sound.opens
+      live_here = live_is one index opened disk0 disk1 disk2 same bytes_same known_same reopens opens is_known head live sound.opens
 
       opened_here : opened.0 ≡ index.file.head
-      opened_here = opened_is one index opened disk0 disk1 disk2 same bytes_same tells_same reopens opens tells head live sound.opens
+      opened_here = opened_is one index opened disk0 disk1 disk2 same bytes_same known_same reopens opens is_known head live sound.opens
 
       moved : (h : Head) (l : Live) (f : List ℕ) → h ≡ head → l ≡ live → f ≡ disk0.bytes → (IsSoundTree (space_of h) (nodes_in h.dim l f) l → Asks h.dim → Said h l f) → Said head live disk0.bytes
       moved h l f hs ls fs go =
@@ -524,36 +524,36 @@ module _ {M : Type 0} (kind_of dim_of : M → ℕ) (one : OneLiveSlot) (show : B
           (subst (λ (x : List ℕ). IsSoundTree (space_of h) (nodes_in h.dim l x) l → Asks h.dim → Said h l x) fs go))) sound.tree asks
 
   pub since_opening :
-      (IsTrue disk2.tells → kind_of index.file.metric ≡ index.file.head.kind → dim_of index.file.metric ≡ index.file.head.dim → IsSoundTree (space_of index.file.head) (nodes_on index.file disk2) index.file.live →
+      (IsTrue disk2.is_known → kind_of index.file.metric ≡ index.file.head.kind → dim_of index.file.metric ≡ index.file.head.dim → IsSoundTree (space_of index.file.head) (nodes_on index.file disk2) index.file.live →
       RunsOn (LeavesAll index.file.head (state_in index.file.head index.file.live disk2.bytes) disk2 disk3) show asked index.file.head index.file.live disk2.bytes disk3 out0 out1 log0 log1 status) →
       RunsAsked show asked disk0 disk3 out0 out1 log0 log1 status
-  since_opening run tells head live sound =
+  since_opening run is_known head live sound =
       said_of show asked head live disk0.bytes disk3 out0 out1 log0 log1 status (λ turns more left. left_since head (state_in head live disk0.bytes) disk0 disk2 disk3 (opening disk0 disk1 disk2 same time) turns more left)
-      (said_before (λ dim. Unit {0}) (λ h l f. RunsOn (LeavesAll h (state_in h l f) disk2 disk3) show asked h l f disk3 out0 out1 log0 log1 status) head live tells sound tt
+      (said_before (λ dim. Unit {0}) (λ h l f. RunsOn (LeavesAll h (state_in h l f) disk2 disk3) show asked h l f disk3 out0 out1 log0 log1 status) head live is_known sound tt
       (λ told is_kind is_dim tree asks. run told is_kind is_dim tree))
 
   pub reads_since : disk1.reads ≤ disk0.reads + 3 → disk2.reads ≤ disk1.reads + 3 →
-      (status ≡ 0 → IsTrue disk2.tells → kind_of index.file.metric ≡ index.file.head.kind → dim_of index.file.metric ≡ index.file.head.dim → IsSoundTree (space_of index.file.head) (nodes_on index.file disk2) index.file.live →
+      (status ≡ 0 → IsTrue disk2.is_known → kind_of index.file.metric ≡ index.file.head.kind → dim_of index.file.metric ≡ index.file.head.dim → IsSoundTree (space_of index.file.head) (nodes_on index.file disk2) index.file.live →
       AllByRecursion IsAsking (asked index.file.head.dim) → ReadsFew 0 show disk2 disk3 log0 log1) → ReadsAsked show asked disk0 disk3 log0 log1 status
-  reads_since first second run zero tells head live sound asks =
-      let few = said_before (λ dim. AllByRecursion IsAsking (asked dim)) (λ h l f. ReadsFew 0 show disk2 disk3 log0 log1) head live tells sound asks (run zero) in
+  reads_since first second run zero is_known head live sound asks =
+      let few = said_before (λ dim. AllByRecursion IsAsking (asked dim)) (λ h l f. ReadsFew 0 show disk2 disk3 log0 log1) head live is_known sound asks (run zero) in
       record { logs = few.logs; logged = few.logged; reads = let r = few.reads in omega (arith, first, second, r) }
 
 -- what ended it
-pub refused_of : (here : Head) (opened : Head × Live) (disk0 disk1 disk2 : DiskState) (out0 out1 log0 log1 : SinkState) (status : ℕ) → disk0.faults ≤ disk1.faults → disk1.tells ≡ disk0.tells →
-    (IsTrue disk0.tells → OpensTo disk0.bytes opened.0 opened.1) → opened.0.version ≡ 2 → (IsTrue disk0.tells → (head : Head) (live : Live) → OpensTo disk0.bytes head live → here ≡ head) → HasFinished here disk1 disk2 out0 out1 log0 log1 status → HasRefused disk0 disk2 out0 out1 log0 log1 status
-refused_of here opened disk0 disk1 disk2 out0 out1 log0 log1 status later same_tells opens version same_head ended = record {
+pub refused_of : (here : Head) (opened : Head × Live) (disk0 disk1 disk2 : DiskState) (out0 out1 log0 log1 : SinkState) (status : ℕ) → disk0.faults ≤ disk1.faults → disk1.is_known ≡ disk0.is_known →
+    (IsTrue disk0.is_known → OpensTo disk0.bytes opened.0 opened.1) → opened.0.version ≡ 2 → (IsTrue disk0.is_known → (head : Head) (live : Live) → OpensTo disk0.bytes head live → here ≡ head) → HasFinished here disk1 disk2 out0 out1 log0 log1 status → HasRefused disk0 disk2 out0 out1 log0 log1 status
+refused_of here opened disk0 disk1 disk2 out0 out1 log0 log1 status later same_known opens version same_head ended = record {
   output = ended.output;
   disk = λ is. rose_before _ _ _ later (ended.disk is);
   not_index = λ is. absurd (six is ended.statuses);
   damaged = λ is. let damage = ended.damaged is in record {
     fault = damage.fault;
     is = damage.is;
-    stands = λ tells head live opens. subst (λ (h : Head). IsDamageIn h disk2.bytes damage.fault) (same_head tells head live opens) (damage.stands (rw (ended.tells, same_tells) tells));
+    stands = λ is_known head live opens. subst (λ (h : Head). IsDamageIn h disk2.bytes damage.fault) (same_head is_known head live opens) (damage.stands (rw (ended.is_known, same_known) is_known));
     line = damage.line;
   };
   lines = ended.lines;
-  index = λ these tells. (opened.0, opened.1, opens tells, version);
+  index = λ these is_known. (opened.0, opened.1, opens is_known, version);
   statuses = wider ended.statuses;
 }
   where
@@ -579,7 +579,7 @@ pub unread_session : (show : Bool) (input : Option (List ℕ)) (disk : DiskState
     SessionEnds (Rose out0.faults out1.faults) status head show (state_in head live disk.bytes) (held_in head.dim live disk.bytes) [] (script head.dim bytes) rest []) →
     RunsSession show input disk disk out0 out1 log log status
 unread_session show input disk out0 out1 log status line told zero five six nine lines ends = record {
-  runs = always input _ (λ bytes tells head live sound.
+  runs = always input _ (λ bytes is_known head live sound.
       unread show (asked_by bytes) head live disk.bytes disk disk out0 out1 log line (Leaves head (state_in head live disk.bytes) disk disk) told (inl (refl, started disk (MayLeave disk) (λ image left. left))) status
       (λ rest l. ends bytes head live rest l) zero);
   reads = always input _ (λ bytes is. absurd (zero is));
@@ -630,17 +630,17 @@ pub ran_complete : (show : Bool) (input : Option (List ℕ)) (disk0 disk1 : Disk
     HasRefused disk0 disk1 out0 out1 log0 log1 status →
     IsComplete input disk0 (Input ⊎ (Rose disk0.faults disk1.faults ⊎ (Rose out0.faults out1.faults ⊎ Rose log0.faults log1.faults))) status
 ran_complete show None disk0 disk1 out0 out1 log0 log1 status Input runs refused = tt
-ran_complete show (Some bytes) disk0 disk1 out0 out1 log0 log1 status Input runs refused = λ few tells head live sound no. elim refused.statuses [
+ran_complete show (Some bytes) disk0 disk1 out0 out1 log0 log1 status Input runs refused = λ few is_known head live sound no. elim refused.statuses [
   | inl zero ↦ inl zero
   | inr more ↦ elim more [
     | inl is ↦ absurd (no (inr (inr (refused.output is))))
     | inr more ↦ elim more [
       | inl is ↦ absurd (no (inr (inl (refused.disk is))))
       | inr more ↦ elim more [
-        | inl is ↦ absurd ((runs.runs tells head live sound).ends.index is)
+        | inl is ↦ absurd ((runs.runs is_known head live sound).ends.index is)
         | inr more ↦ elim more [
           | inl is ↦ inr is
-          | inr is ↦ absurd ((runs.runs tells head live sound).ends.undamaged is)
+          | inr is ↦ absurd ((runs.runs is_known head live sound).ends.undamaged is)
         ]
       ]
     ]

@@ -16,7 +16,7 @@ use Rattle.index_core.specs.declared.faults.IndexFault.TheVariants as fault
 use Rattle.index_core.specs.Answers.{IsSoundOn, points_on}
 use Rattle.index_core.specs.Causes.{BlamesNoPage}
 use Rattle.index_core.specs.Damage.{BlamesDamage}
-use Rattle.index_core.specs.Files.{IsLawfulFile}
+use Rattle.index_core.specs.Files.{IsValidFile}
 use Rattle.index_core.specs.Index.{OpenIndex, StandsAlone}
 use Rattle.index_core.specs.Loading.{HasLoadingCause, ids, load_fault}
 use Rattle.index_core.specs.Writing.{Loads, HasWritten}
@@ -38,9 +38,9 @@ last_of : (n last : ℕ) → (n == last) ≡ true → n ≡ last
 last_of n last is = grind arith
 
 module _ {M : Type 0} (s : Space) (show : Bool) (old new : OpenIndex M) (cursors : OpenCursors) (before after : DiskState) (c : Command) (rows : List (List ℕ)) (labels : List ℕ)
-    (lawful : IsLawfulFile s.words old.file) (alone : StandsAlone old before) (going : old.stopped ≡ false) (told : after.tells ≡ before.tells) (later : before.faults ≤ after.faults) where
+    (valid : IsValidFile s.dimension old.file) (alone : StandsAlone old before) (going : old.stopped ≡ false) (told : after.is_known ≡ before.is_known) (later : before.faults ≤ after.faults) where
   count_on : length (points_on old.file before) ≡ old.file.live.count
-  count_on = count_is s show old new cursors before after c lawful alone going told later
+  count_on = count_is s show old new cursors before after c valid alone going told later
 
   filled_fault : (old.file.live.count == 0) ≡ false → load_fault old (length rows) ≡ Some fault.NotEmpty
   filled_fault some = rw (going, some) refl
@@ -94,7 +94,7 @@ module _ {M : Type 0} (s : Space) (show : Bool) (old new : OpenIndex M) (cursors
       step (setting_of s old.file) state c ≡ load_step old.file.head.limit state rows labels →
       HasStepped s show old new cursors cursors before after c (written_answer (λ count. reply.Loaded count) result)
   load_stepped result written refused cause undamaged blames writes unasked meaning =
-      write_stepped s show old new cursors before after c (Loads rows labels) (λ count. reply.Loaded count) lawful alone going result written (record {
+      write_stepped s show old new cursors before after c (Loads rows labels) (λ count. reply.Loaded count) valid alone going result written (record {
         writes = writes;
         unasked = unasked;
         accepting = λ room filled. meaning ∙ accepting room filled (old.file.live.count == 0) refl (nat_lt old.file.head.limit (length rows)) refl;
@@ -106,7 +106,7 @@ module _ {M : Type 0} (s : Space) (show : Bool) (old new : OpenIndex M) (cursors
         stands = result_stands old.file before after alone.stands.opens told result unchanged blames;
         accepts_says = λ n. refl;
         tags_says = λ n. tt;
-        tells = told;
+        is_known = told;
         later = later;
       })
     where
@@ -171,8 +171,8 @@ module _ {M : Type 0} (s : Space) (show : Bool) (old new : OpenIndex M) (cursors
           once true n false m false e = absurd (let x = sym l ∙ no_fault n m e in cc)
 
 -- the commands `load` and `tload`
-module _ {M : Type 0} (s : Space) (show : Bool) (old new : OpenIndex M) (cursors : OpenCursors) (before after : DiskState) (c : Command) (rows : Table) (lawful : IsLawfulFile s.words old.file)
-    (alone : StandsAlone old before) (going : old.stopped ≡ false) (told : after.tells ≡ before.tells) (later : before.faults ≤ after.faults) (points : IsTrue (has_points_of s c)) where
+module _ {M : Type 0} (s : Space) (show : Bool) (old new : OpenIndex M) (cursors : OpenCursors) (before after : DiskState) (c : Command) (rows : Table) (valid : IsValidFile s.dimension old.file)
+    (alone : StandsAlone old before) (going : old.stopped ≡ false) (told : after.is_known ≡ before.is_known) (later : before.faults ≤ after.faults) (points : IsTrue (has_points_of s c)) where
   unasked : query_of c ≡ None → answered_query s c ≡ None
   unasked none = rw points none
 
@@ -184,7 +184,7 @@ module _ {M : Type 0} (s : Space) (show : Bool) (old new : OpenIndex M) (cursors
       (load_fault old (length rows.points) ≡ None → IfErr result (HasLoadingCause s old rows.points (ids (length rows.points)) before after.faults)) →
       IfErr result (λ why. IsSoundOn s old.file before → BlamesNoPage why) → IfErr result (BlamesDamage old.file before) → HasStepped s show old new cursors cursors before after c (written_answer (λ count. reply.Loaded count) result)
   loaded_stepped result is written refused cause undamaged blames =
-      load_stepped s show old new cursors before after c rows.points (ids (length rows.points)) lawful alone going told later result written refused cause undamaged blames
+      load_stepped s show old new cursors before after c rows.points (ids (length rows.points)) valid alone going told later result written refused cause undamaged blames
       (rw is (ap (λ (l : List ℕ). Some (Loads rows.points l)) (ids_are 0 (length rows.points)))) (unasked (rw is refl))
       (executed (command.Load rows) is ∙ ap (λ (l : List ℕ). load_step old.file.head.limit (state_on old.file before cursors) rows.points l) (ids_are 0 (length rows.points)))
 
@@ -193,4 +193,4 @@ module _ {M : Type 0} (s : Space) (show : Bool) (old new : OpenIndex M) (cursors
       (load_fault old (length rows.points) ≡ None → IfErr result (HasLoadingCause s old rows.points tags before after.faults)) →
       IfErr result (λ why. IsSoundOn s old.file before → BlamesNoPage why) → IfErr result (BlamesDamage old.file before) → HasStepped s show old new cursors cursors before after c (written_answer (λ count. reply.Loaded count) result)
   tag_loaded_stepped tags result is written refused cause undamaged blames =
-      load_stepped s show old new cursors before after c rows.points tags lawful alone going told later result written refused cause undamaged blames (rw is refl) (unasked (rw is refl)) (executed (command.TagLoad tags rows) is)
+      load_stepped s show old new cursors before after c rows.points tags valid alone going told later result written refused cause undamaged blames (rw is refl) (unasked (rw is refl)) (executed (command.TagLoad tags rows) is)

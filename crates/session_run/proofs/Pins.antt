@@ -108,7 +108,7 @@ pub free_stands : {M : Type 0} (old new : OpenIndex M) (disk : DiskState) → ne
 free_stands {M} old new disk only beside alone = record {
   stands = subst (λ (f : OpenFile M). StandsOn f disk) (sym file) alone.stands;
   only = alone.only;
-  spare = λ tells. subst (λ (f : OpenFile M). LiesBesideTree (nodes_on f disk) new) (sym file) (beside (nodes_on old.file disk) (alone.spare tells));
+  spare = λ is_known. subst (λ (f : OpenFile M). LiesBesideTree (nodes_on f disk) new) (sym file) (beside (nodes_on old.file disk) (alone.spare is_known));
 }
   where
     file : new.file ≡ old.file

@@ -20,7 +20,7 @@ use Rattle.answer_texts.specs.Asked.{Held}
 use Rattle.answer_texts.specs.Put.{AreCut}
 use Rattle.answer_texts.proofs.Published.{cut_behind, framed_both}
 use Rattle.index_core.specs.Answers.{IsSoundOn}
-use Rattle.index_core.specs.Files.{OpenFile, IsLawfulFile}
+use Rattle.index_core.specs.Files.{OpenFile, IsValidFile}
 use Rattle.index_core.specs.Index.{OpenIndex, StandsAlone}
 use Rattle.index_core.proofs.Published.{holds}
 use Rattle.session_run.specs.declared.pinned.PinnedCursor.{PinnedCursor}
@@ -112,9 +112,9 @@ module _ {M : Type 0} (s : Space) (show : Bool) (old : OpenIndex M) (disk0 : Dis
     pub reads : AllByRecursion IsAsking (commands_of (answers_of turns)) → disk1.reads ≤ disk0.reads + most_read show (logs_of (answers_of turns))
     pub moments : EachImage disk0 disk1 (HoldsSome setting old.file.head state0 turns)
 
-  pub begun : (pinned : PinnedCursors) → pinned.cursors.items ≡ [] → pinned.next ≡ 0 → IsLawfulFile s.words old.file → StandsAlone old disk0 → IsSoundOn s old.file disk0 →
+  pub begun : (pinned : PinnedCursors) → pinned.cursors.items ≡ [] → pinned.next ≡ 0 → IsValidFile s.dimension old.file → StandsAlone old disk0 → IsSoundOn s old.file disk0 →
       HasDone old pinned disk0 commands out0 log0 0
-  begun pinned none first lawful alone sound = record {
+  begun pinned none first valid alone sound = record {
     turns = [];
     cursors = no_cursors;
     whole = refl;
@@ -130,7 +130,7 @@ module _ {M : Type 0} (s : Space) (show : Bool) (old : OpenIndex M) (disk0 : Dis
     };
     reads = λ asks. none_read show disk0.reads;
     moments = started disk0 (HoldsSome setting old.file.head state0 []) (λ image left.
-        subst (λ (file : List ℕ). HoldsState s old.file.head state0 file) (sym (alone.only sound.0 image left)) (holds s old.file disk0 _ _ lawful alone.stands (objects_on s old.file disk0 sound)));
+        subst (λ (file : List ℕ). HoldsState s old.file.head state0 file) (sym (alone.only sound.0 image left)) (holds s old.file disk0 _ _ valid alone.stands (objects_on s old.file disk0 sound)));
   }
 
   module _ (mid : OpenIndex M) (pinned : PinnedCursors) (disk1 : DiskState) (c : Command) (rest : List Command) (out1 log1 : SinkState) (acknowledged : ℕ)
@@ -238,10 +238,10 @@ module _ {M : Type 0} (s : Space) (show : Bool) (old : OpenIndex M) (disk0 : Dis
             }
 
   -- no command is left
-  pub finished : (new closed : OpenIndex M) (pinned : PinnedCursors) (disk1 : DiskState) (out1 log1 : SinkState) (acknowledged : ℕ) → new.file.head ≡ old.file.head → closed.file ≡ new.file → IsLawfulFile s.words new.file →
+  pub finished : (new closed : OpenIndex M) (pinned : PinnedCursors) (disk1 : DiskState) (out1 log1 : SinkState) (acknowledged : ℕ) → new.file.head ≡ old.file.head → closed.file ≡ new.file → IsValidFile s.dimension new.file →
       StandsAlone new disk1 → HasDone new pinned disk1 [] out1 log1 acknowledged →
       HasRun setting old.file.head show commands state0 file0 disk0 disk1 out0 out1 log0 log1 acknowledged None (held_on closed.file disk1)
-  finished new closed pinned disk1 out1 log1 acknowledged same_head same_file lawful alone done = record {
+  finished new closed pinned disk1 out1 log1 acknowledged same_head same_file valid alone done = record {
     turns = done.turns;
     more = [];
     rest = [];
@@ -258,7 +258,7 @@ module _ {M : Type 0} (s : Space) (show : Bool) (old : OpenIndex M) (disk0 : Dis
     remains = λ image left. inl (subst (λ (state : State). HoldsState s old.file.head state image) (sym done.state)
         (subst (λ (h : Head). HoldsState s h (state_on new.file disk1 done.cursors) image) same_head
         (subst (λ (file : List ℕ). HoldsState s new.file.head (state_on new.file disk1 done.cursors) file) (sym (alone.only done.goes.sound.0 image left))
-        (holds s new.file disk1 _ _ lawful alone.stands (objects_on s new.file disk1 done.goes.sound)))));
+        (holds s new.file disk1 _ _ valid alone.stands (objects_on s new.file disk1 done.goes.sound)))));
   }
 
 -- a fault that ends a session has its cause in the session

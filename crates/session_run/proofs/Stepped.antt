@@ -34,7 +34,7 @@ use Rattle.index_core.specs.declared.faults.IndexFault.TheVariants as fault
 use Rattle.index_core.specs.Answers.{IsSoundOn}
 use Rattle.index_core.specs.Causes.{BlamesNoPage, HasListCause}
 use Rattle.index_core.specs.Damage.{BlamesDamage}
-use Rattle.index_core.specs.Files.{OpenFile, IsLawfulFile, OnlyReads, nodes_on}
+use Rattle.index_core.specs.Files.{OpenFile, IsValidFile, OnlyReads, nodes_on}
 use Rattle.index_core.specs.Index.{OpenIndex, StandsAlone}
 use Rattle.index_core.specs.Lending.{same_room_by_none}
 use Rattle.index_core.specs.Pinning.{AreReached, IsPinned}
@@ -96,13 +96,13 @@ pub record IsStep (s : Space) (dim : ℕ) (disk : DiskState) (c now : OpenCursor
   pub live : now.live ≡ c.live
   pub point : now.point ≡ c.point
   pub given : now.given ≡ c.given + length hits
-  pub gives : (nodes : Nodes) → IsTrue disk.tells → IsSoundTree s nodes c.live → HoldsTree dim nodes c.live disk.bytes → IsCursorOn s nodes c → GivesNext s nodes c now n hits tags
+  pub gives : (nodes : Nodes) → IsTrue disk.is_known → IsSoundTree s nodes c.live → HoldsTree dim nodes c.live disk.bytes → IsCursorOn s nodes c → GivesNext s nodes c now n hits tags
 
 -- a cursor refused
 pub record IsRefusal (s : Space) (dim : ℕ) (before after : DiskState) (c : OpenCursor) (fault : PageFault) : Type 0 where
   pub asked : ℕ
   pub cause : HasPageCause c (disk_shelf Second dim c.live.pages before 0) (disk_shelf Second dim c.live.pages after asked) fault
-  pub sound : (nodes : Nodes) → IsTrue before.tells → IsSoundTree s nodes c.live → HoldsTree dim nodes c.live before.bytes → IsCursorOn s nodes c → IsPassing fault
+  pub sound : (nodes : Nodes) → IsTrue before.is_known → IsSoundTree s nodes c.live → HoldsTree dim nodes c.live before.bytes → IsCursorOn s nodes c → IsPassing fault
 
 -- a disk that is only read
 pub reads_only : {M : Type 0} (file : OpenFile M) (before after : DiskState) → IsUnchanged before after → before.faults ≤ after.faults → OnlyReads file file before after
@@ -130,28 +130,28 @@ module _ {M : Type 0} (s : Space) (index : OpenIndex M) (before after : DiskStat
       here : IsKeptBy s index (record it { cursor = now })
       here = record {
         pinned = subst (λ (t : Live). IsPinned t.generation index) (sym live) was.pinned;
-        point = subst (λ (p : List ℕ). IsTrue (s.fits p)) (sym point) was.point;
+        point = subst (λ (p : List ℕ). IsTrue (s.is_point p)) (sym point) was.point;
         few = subst (λ (t : Live). t.pages ≤ 2 ^ 24) (sym live) was.few;
       }
 
   -- the next hits are given
-  pub advanced_by : (opened : OpenCursors) (hits : List Hit) (tags : List ℕ) → IsUnchanged before after → before.faults ≤ after.faults → IsTrue before.tells → StandFor s index before.bytes pinned0 opened →
+  pub advanced_by : (opened : OpenCursors) (hits : List Hit) (tags : List ℕ) → IsUnchanged before after → before.faults ≤ after.faults → IsTrue before.is_known → StandFor s index before.bytes pinned0 opened →
       pinned1.cursors.items ≡ set pinned0.cursors.items k (record it { cursor = now }) → pinned1.next ≡ pinned0.next → IsStep s index.file.head.dim before it.cursor now n hits tags →
       HasAdvanced s index after.bytes pinned1 opened number n (reply.Next hits tags)
-  advanced_by opened hits tags same later tells stand items next step = record {
+  advanced_by opened hits tags same later is_known stand items next step = record {
     cursors = record { cursors = map (advanced number n) opened.cursors; next = opened.next };
     stand = record {
       each = subst (λ (l : List PinnedCursor). AllZip (StandsFor s index after.bytes) l (map (advanced number n) opened.cursors)) (sym items)
-          (moved_at (StandsFor s index before.bytes) (StandsFor s index after.bytes) (λ c m is. is.number) (λ c m is. stands_still s index index before after c m keeps tells refl is)
+          (moved_at (StandsFor s index before.bytes) (StandsFor s index after.bytes) (λ c m is. is.number) (λ c m is. stands_still s index index before after c m keeps is_known refl is)
           pinned0.cursors.items opened.cursors 0 pinned0.next k number n d (record it { cursor = now }) kept.numbers stand.each below at
-          (λ m was. stands_still s index index before after (record it { cursor = now }) (advanced number n m) keeps tells refl
-          (stepped_stands s index before.bytes it now m number n hits tags was step.live step.point step.given (step.gives was.nodes tells was.sound was.held was.stands) (same_number m.number number (was.number ∙ at)))));
+          (λ m was. stands_still s index index before after (record it { cursor = now }) (advanced number n m) keeps is_known refl
+          (stepped_stands s index before.bytes it now m number n hits tags was step.live step.point step.given (step.gives was.nodes is_known was.sound was.held was.stands) (same_number m.number number (was.number ∙ at)))));
       next = stand.next ∙ sym next;
     };
     meaning = λ objects. ap (λ (o : Option Cursor). next_from (with_cursors objects opened) number n o) named.1
         ∙ (λ i. (let done : Step = record {
-          reply = reply.Next (hits_given s index before.bytes it now named.0 number n hits tags named.2 step.live step.point step.given (step.gives named.2.nodes tells named.2.sound named.2.held named.2.stands) i)
-              (tags_given s index before.bytes it now named.0 number n hits tags named.2 step.live step.point step.given (step.gives named.2.nodes tells named.2.sound named.2.held named.2.stands) i);
+          reply = reply.Next (hits_given s index before.bytes it now named.0 number n hits tags named.2 step.live step.point step.given (step.gives named.2.nodes is_known named.2.sound named.2.held named.2.stands) i)
+              (tags_given s index before.bytes it now named.0 number n hits tags named.2 step.live step.point step.given (step.gives named.2.nodes is_known named.2.sound named.2.held named.2.stands) i);
           state = with_cursors objects (record { cursors = map (advanced number n) opened.cursors; next = opened.next });
         } in done));
   }
@@ -179,17 +179,17 @@ module _ {M : Type 0} (s : Space) (index : OpenIndex M) (before after : DiskStat
 
 -- where the disk tells its bytes, no page that the step came to is damaged
 pub step_stands : {M : Type 0} (s : Space) (index : OpenIndex M) (before after : DiskState) (c : PinnedCursor) (fault : PageFault) → IsUnchanged before after → IsRefusal s index.file.head.dim before after c.cursor fault →
-    (IsTrue before.tells → GoesThrough index before.bytes c) → StandsBy index.file.head after (stop_of_page fault)
+    (IsTrue before.is_known → GoesThrough index before.bytes c) → StandsBy index.file.head after (stop_of_page fault)
 step_stands s index before after c page.Disk same refusal goes = tt
 step_stands s index before after c page.Memory same refusal goes = tt
-step_stands s index before after c (page.Bad p f) same refusal goes = λ tells.
-    let now : IsTrue before.tells = subst IsTrue same.same_tells tells in
+step_stands s index before after c (page.Bad p f) same refusal goes = λ is_known.
+    let now : IsTrue before.is_known = subst IsTrue same.same_known is_known in
     let told = refusal.cause.2 now in absurd (no_fault index before.bytes c (goes now) p (page.Bad p f) told.0 told.1)
-step_stands s index before after c (page.Outside p) same refusal goes = λ tells.
-    let now : IsTrue before.tells = subst IsTrue same.same_tells tells in
+step_stands s index before after c (page.Outside p) same refusal goes = λ is_known.
+    let now : IsTrue before.is_known = subst IsTrue same.same_known is_known in
     let told = refusal.cause.1 now in absurd (no_fault index before.bytes c (goes now) p (page.Outside p) told.0 told.1)
-step_stands s index before after c (page.Repeats p) same refusal goes = λ tells.
-    let now : IsTrue before.tells = subst IsTrue same.same_tells tells in
+step_stands s index before after c (page.Repeats p) same refusal goes = λ is_known.
+    let now : IsTrue before.is_known = subst IsTrue same.same_known is_known in
     absurd (never_again index before.bytes c (goes now) p (refusal.cause.1 now).1)
 step_stands s index before after c (page.Level p) same refusal goes = absurd refusal.cause
 
@@ -231,10 +231,10 @@ module _ {M : Type 0} (s : Space) (old new : OpenIndex M) (before after : DiskSt
   abbrev pub with_one : OpenCursors
   with_one = record { cursors = opened.cursors ++ cursor_over s (state_on old.file before opened) q ∷ []; next = opened.next + 1 }
 
-  first_stands : (IsTrue before.tells → (tree : List ℕ) → AreReached nodes old.file.live.root tree → GuardsPages old.file.live.generation tree new) →
-      ((t : Space) (nodes : Nodes) → IsSpace t → IsSoundTree t nodes old.file.live → IsTrue (t.fits q) → IsCursorOn t nodes c.cursor) → IsSpace s → IsTrue (s.fits q) →
+  first_stands : (IsTrue before.is_known → (tree : List ℕ) → AreReached nodes old.file.live.root tree → GuardsPages old.file.live.generation tree new) →
+      ((t : Space) (nodes : Nodes) → IsSpace t → IsSoundTree t nodes old.file.live → IsTrue (t.is_point q) → IsCursorOn t nodes c.cursor) → IsSpace s → IsTrue (s.is_point q) →
       StandsFor s new after.bytes c (cursor_over s (state_on old.file before opened) q)
-  first_stands guards starts space fits = record {
+  first_stands guards starts space is_point = record {
     nodes = nodes;
     number = goes.cursors.next ∙ sym number;
     sound = subst (λ (o : OpenCursor). IsSoundTree s nodes o.live) (sym begins) goes.sound.1;
@@ -243,39 +243,39 @@ module _ {M : Type 0} (s : Space) (old new : OpenIndex M) (before after : DiskSt
     guarded = subst (λ (o : OpenCursor). GuardsPages o.live.generation (live_pages nodes o.live) new) (sym begins)
         (guards goes.sound.0 (live_pages nodes old.file.live)
         (all_of_in (IsReached nodes old.file.live.root) (live_pages nodes old.file.live) (λ page i. ((whole s nodes old.file.live goes.sound.1).reached page).0 i)));
-    stands = starts s nodes space goes.sound.1 fits;
+    stands = starts s nodes space goes.sound.1 is_point;
     hits = subst (λ (o : OpenCursor). nearest_hits s (points_by_id nodes old.file.live) q (length (points_by_id nodes old.file.live)) ≡ rest_of s nodes o) (sym begins)
         (ap (λ (k : ℕ). nearest_hits s (points_by_id nodes old.file.live) q k) (length-points (objects nodes old.file.live) 0 old.file.live.count));
     tags = ap (λ (o : OpenCursor). tags_of nodes o.live (cursor_over s (state_on old.file before opened) q).hits) (sym begins);
   }
 
-  pub opened_stand : (IsTrue before.tells → (tree : List ℕ) → AreReached nodes old.file.live.root tree → GuardsPages old.file.live.generation tree new) →
-      ((t : Space) (nodes : Nodes) → IsSpace t → IsSoundTree t nodes old.file.live → IsTrue (t.fits q) → IsCursorOn t nodes c.cursor) → IsSpace s → IsTrue (s.fits q) →
+  pub opened_stand : (IsTrue before.is_known → (tree : List ℕ) → AreReached nodes old.file.live.root tree → GuardsPages old.file.live.generation tree new) →
+      ((t : Space) (nodes : Nodes) → IsSpace t → IsSoundTree t nodes old.file.live → IsTrue (t.is_point q) → IsCursorOn t nodes c.cursor) → IsSpace s → IsTrue (s.is_point q) →
       pinned1.cursors.items ≡ pinned0.cursors.items ++ c ∷ [] → pinned1.next ≡ pinned0.next + 1 → StandFor s new after.bytes pinned1 with_one
-  opened_stand guards starts space fits items next = record {
+  opened_stand guards starts space is_point items next = record {
     each = subst (λ (l : List PinnedCursor). AllZip (StandsFor s new after.bytes) l with_one.cursors) (sym items)
         (zip_more (StandsFor s new after.bytes) pinned0.cursors.items opened.cursors c (cursor_over s (state_on old.file before opened) q)
-        (each_still s old new before after pinned0.cursors.items opened.cursors keeps goes.sound.0 head goes.cursors.each) (first_stands guards starts space fits));
+        (each_still s old new before after pinned0.cursors.items opened.cursors keeps goes.sound.0 head goes.cursors.each) (first_stands guards starts space is_point));
     next = ap (λ (n : ℕ). n + 1) goes.cursors.next ∙ sym next;
   }
     where
       keeps : KeepsGuarded old new before after
-      keeps = record { guarded = guarded; kept = λ tells generation tree is. same_pages tree before.bytes after.bytes reads.same.same_bytes }
+      keeps = record { guarded = guarded; kept = λ is_known generation tree is. same_pages tree before.bytes after.bytes reads.same.same_bytes }
 
   -- that is what the command means
-  pub opened_means : IsTrue (s.fits q) → nat_lt (length pinned0.cursors.items) most_cursors ≡ true →
+  pub opened_means : IsTrue (s.is_point q) → nat_lt (length pinned0.cursors.items) most_cursors ≡ true →
       step (setting_of s old.file) (state_on old.file before opened) (command.Cursor q) ≡ record { reply = reply.Cursor pinned0.next; state = state_on old.file before with_one }
-  opened_means fits room =
+  opened_means is_point room =
       let few : nat_lt (length opened.cursors) most_cursors ≡ true = ap (λ (n : ℕ). nat_lt n most_cursors) (sym (zip_length (StandsFor s old before.bytes) pinned0.cursors.items opened.cursors goes.cursors.each)) ∙ room in
-      rw (fits, few) (ap (λ (n : ℕ). (let done : Step = record { reply = reply.Cursor n; state = state_on old.file before with_one } in done)) goes.cursors.next)
+      rw (is_point, few) (ap (λ (n : ℕ). (let done : Step = record { reply = reply.Cursor n; state = state_on old.file before with_one } in done)) goes.cursors.next)
 
 -- all cursors that may be open are
-pub full_means : {M : Type 0} (s : Space) (old : OpenIndex M) (before : DiskState) (pinned : PinnedCursors) (opened : OpenCursors) (q : List ℕ) → GoesOn s old before pinned opened → IsTrue (s.fits q) →
+pub full_means : {M : Type 0} (s : Space) (old : OpenIndex M) (before : DiskState) (pinned : PinnedCursors) (opened : OpenCursors) (q : List ℕ) → GoesOn s old before pinned opened → IsTrue (s.is_point q) →
     nat_lt (length pinned.cursors.items) most_cursors ≡ false →
     step (setting_of s old.file) (state_on old.file before opened) (command.Cursor q) ≡ record { reply = reply.Refused refusal.Cursors; state = state_on old.file before opened }
-full_means s old before pinned opened q goes fits full =
+full_means s old before pinned opened q goes is_point full =
     let no : nat_lt (length opened.cursors) most_cursors ≡ false = ap (λ (n : ℕ). nat_lt n most_cursors) (sym (zip_length (StandsFor s old before.bytes) pinned.cursors.items opened.cursors goes.cursors.each)) ∙ full in
-    rw (fits, no) refl
+    rw (is_point, no) refl
 
 -- the cursors with one more are kept
 pub kept_more : {M : Type 0} (s : Space) (old new : OpenIndex M) (pinned0 pinned1 : PinnedCursors) (c : PinnedCursor) → ((generation : ℕ) (tree : List ℕ) → GuardsPages generation tree old → GuardsPages generation tree new) →
@@ -291,60 +291,60 @@ kept_more s old new pinned0 pinned1 c guarded kept is items next number = record
 
 -- a cursor is opened
 pub opened_carried : {M : Type 0} (s : Space) (show : Bool) (old new : OpenIndex M) (pinned0 pinned1 : PinnedCursors) (before after : DiskState) (q : List ℕ) (c : PinnedCursor) (live : Live) (point : List ℕ) →
-    IsLawfulFile s.words old.file → StandsAlone old before → StandsAlone new after → new.stopped ≡ false → IsSpace s → IsTrue (s.fits q) → OnlyReads old.file new.file before after →
+    IsValidFile s.dimension old.file → StandsAlone old before → StandsAlone new after → new.stopped ≡ false → IsSpace s → IsTrue (s.is_point q) → OnlyReads old.file new.file before after →
     ((generation : ℕ) (tree : List ℕ) → GuardsPages generation tree old → GuardsPages generation tree new) → IsPinned old.file.live.generation new → SoundTreesAreWhole →
-    (IsTrue before.tells → (tree : List ℕ) → AreReached (nodes_on old.file before) old.file.live.root tree → GuardsPages old.file.live.generation tree new) →
+    (IsTrue before.is_known → (tree : List ℕ) → AreReached (nodes_on old.file before) old.file.live.root tree → GuardsPages old.file.live.generation tree new) →
     live ≡ old.file.live → point ≡ q → c.cursor ≡ begun live point →
-    ((t : Space) (nodes : Nodes) → IsSpace t → IsSoundTree t nodes live → IsTrue (t.fits point) → IsCursorOn t nodes c.cursor) →
+    ((t : Space) (nodes : Nodes) → IsSpace t → IsSoundTree t nodes live → IsTrue (t.is_point point) → IsCursorOn t nodes c.cursor) →
     c.number ≡ pinned0.next → pinned1.cursors.items ≡ pinned0.cursors.items ++ c ∷ [] → pinned1.next ≡ pinned0.next + 1 → AreKeptBy s old pinned0 → nat_lt (length pinned0.cursors.items) most_cursors ≡ true →
     HasCarriedOut s show old new pinned0 pinned1 before after (command.Cursor q) (Ok (plain_answer (reply.Cursor pinned0.next)))
-opened_carried {M} s show old new pinned0 pinned1 before after q c live point lawful alone next_alone going space fits reads guarded pinned whole guards live_is point_is begins starts number items next kept room =
-    carried_plain s show old new pinned0 pinned1 before after (command.Cursor q) lawful alone reads (reply.Cursor pinned0.next) going (omega (arith, next))
+opened_carried {M} s show old new pinned0 pinned1 before after q c live point valid alone next_alone going space is_point reads guarded pinned whole guards live_is point_is begins starts number items next kept room =
+    carried_plain s show old new pinned0 pinned1 before after (command.Cursor q) valid alone reads (reply.Cursor pinned0.next) going (omega (arith, next))
     (kept_more s old new pinned0 pinned1 c guarded kept (record {
       pinned = subst (λ (o : OpenCursor). IsPinned o.live.generation new) (sym here) pinned;
-      point = subst (λ (o : OpenCursor). IsTrue (s.fits o.point)) (sym here) fits;
-      few = subst (λ (o : OpenCursor). o.live.pages ≤ 2 ^ 24) (sym here) lawful.live.1.high_pages;
+      point = subst (λ (o : OpenCursor). IsTrue (s.is_point o.point)) (sym here) is_point;
+      few = subst (λ (o : OpenCursor). o.live.pages ≤ 2 ^ 24) (sym here) valid.live.1.high_pages;
     }) items next number)
-    tt (rw fits refl) (λ asks. asks) (λ opened goes. refl)
+    tt (rw is_point refl) (λ asks. asks) (λ opened goes. refl)
     (λ opened goes. (
       with_one s old new before after pinned0 pinned1 opened q c goes reads guarded whole here number,
       (
-        opened_means s old new before after pinned0 pinned1 opened q c goes reads guarded whole here number fits room,
-        opened_stand s old new before after pinned0 pinned1 opened q c goes reads guarded whole here number guards started space fits items next,
+        opened_means s old new before after pinned0 pinned1 opened q c goes reads guarded whole here number is_point room,
+        opened_stand s old new before after pinned0 pinned1 opened q c goes reads guarded whole here number guards started space is_point items next,
       ),
     ))
-    (λ through tells. subst (AllByRecursion (GoesThrough new after.bytes)) (sym items)
+    (λ through is_known. subst (AllByRecursion (GoesThrough new after.bytes)) (sym items)
     (all_append (GoesThrough new after.bytes) pinned0.cursors.items (c ∷ [])
-    (still_through old new before after pinned0 (record { guarded = guarded; kept = λ now generation tree is. same_pages tree before.bytes after.bytes reads.same.same_bytes }) reads.same.same_tells
-    (ap (λ (file : OpenFile M). file.head) reads.rest) through tells)
-    (goes_from_root new after c q next_alone (subst (λ (f : OpenFile M). IsPinned f.live.generation new) (sym reads.rest) pinned) (here ∙ ap (λ (f : OpenFile M). begun f.live q) (sym reads.rest)) tells, tt)))
+    (still_through old new before after pinned0 (record { guarded = guarded; kept = λ now generation tree is. same_pages tree before.bytes after.bytes reads.same.same_bytes }) reads.same.same_known
+    (ap (λ (file : OpenFile M). file.head) reads.rest) through is_known)
+    (goes_from_root new after c q next_alone (subst (λ (f : OpenFile M). IsPinned f.live.generation new) (sym reads.rest) pinned) (here ∙ ap (λ (f : OpenFile M). begun f.live q) (sym reads.rest)) is_known, tt)))
   where
     here : c.cursor ≡ begun old.file.live q
     here = begins ∙ (λ i. begun (live_is i) (point_is i))
 
-    started : (t : Space) (nodes : Nodes) → IsSpace t → IsSoundTree t nodes old.file.live → IsTrue (t.fits q) → IsCursorOn t nodes c.cursor
-    started t nodes space sound fits = starts t nodes space (subst (IsSoundTree t nodes) (sym live_is) sound) (subst (λ (p : List ℕ). IsTrue (t.fits p)) (sym point_is) fits)
+    started : (t : Space) (nodes : Nodes) → IsSpace t → IsSoundTree t nodes old.file.live → IsTrue (t.is_point q) → IsCursorOn t nodes c.cursor
+    started t nodes space sound is_point = starts t nodes space (subst (IsSoundTree t nodes) (sym live_is) sound) (subst (λ (p : List ℕ). IsTrue (t.is_point p)) (sym point_is) is_point)
 
 -- as many are open as may be
-pub full_carried : {M : Type 0} (s : Space) (show : Bool) (old : OpenIndex M) (pinned : PinnedCursors) (disk : DiskState) (q : List ℕ) → IsLawfulFile s.words old.file → StandsAlone old disk → old.stopped ≡ false →
-    AreKeptBy s old pinned → IsTrue (s.fits q) → nat_lt (length pinned.cursors.items) most_cursors ≡ false →
+pub full_carried : {M : Type 0} (s : Space) (show : Bool) (old : OpenIndex M) (pinned : PinnedCursors) (disk : DiskState) (q : List ℕ) → IsValidFile s.dimension old.file → StandsAlone old disk → old.stopped ≡ false →
+    AreKeptBy s old pinned → IsTrue (s.is_point q) → nat_lt (length pinned.cursors.items) most_cursors ≡ false →
     HasCarriedOut s show old old pinned pinned disk disk (command.Cursor q) (Ok (plain_answer (reply.Refused refusal.Cursors)))
-full_carried s show old pinned disk q lawful alone going kept fits full =
-    carried_plain s show old old pinned pinned disk disk (command.Cursor q) lawful alone (reads_none old.file disk) (reply.Refused refusal.Cursors) going (omega arith) kept tt (rw fits refl) (λ asks. asks) (λ opened goes. refl)
-    (λ opened goes. (opened, (full_means s old disk pinned opened q goes fits full, goes.cursors))) (λ through. through)
+full_carried s show old pinned disk q valid alone going kept is_point full =
+    carried_plain s show old old pinned pinned disk disk (command.Cursor q) valid alone (reads_none old.file disk) (reply.Refused refusal.Cursors) going (omega arith) kept tt (rw is_point refl) (λ asks. asks) (λ opened goes. refl)
+    (λ opened goes. (opened, (full_means s old disk pinned opened q goes is_point full, goes.cursors))) (λ through. through)
 
 -- the tree can't be pinned
-pub pin_stopped : {M : Type 0} (s : Space) (show : Bool) (old new : OpenIndex M) (pinned0 pinned1 : PinnedCursors) (before after : DiskState) (c : Command) (why : IndexFault) → IsLawfulFile s.words old.file → StandsAlone old before →
+pub pin_stopped : {M : Type 0} (s : Space) (show : Bool) (old new : OpenIndex M) (pinned0 pinned1 : PinnedCursors) (before after : DiskState) (c : Command) (why : IndexFault) → IsValidFile s.dimension old.file → StandsAlone old before →
     OnlyReads old.file new.file before after → HasListCause old.file before after.faults why → BlamesDamage old.file before why → (IsSoundOn s old.file before → BlamesNoPage why) →
     HasCarriedOut s show old new pinned0 pinned1 before after c (answer_of_fault why)
-pin_stopped s show old new pinned0 pinned1 before after c fault.Disk lawful alone reads cause blames undamaged = carried_stopped s show old new pinned0 pinned1 before after c lawful alone reads stop.Disk cause (λ all. tt)
-pin_stopped s show old new pinned0 pinned1 before after c (fault.Damaged f) lawful alone reads cause blames undamaged =
-    carried_stopped s show old new pinned0 pinned1 before after c lawful alone reads (stop.Damaged f) (walk_damage f cause.0, λ can. undamaged can.1.sound)
-    (λ all. blames_stands old.file before after alone.stands.opens reads.same.same_tells (fault.Damaged f) (λ g is. reads.same.same_bytes) blames)
-pin_stopped s show old new pinned0 pinned1 before after c fault.Memory lawful alone reads cause blames undamaged = carried_stopped s show old new pinned0 pinned1 before after c lawful alone reads stop.Memory tt (λ all. tt)
-pin_stopped s show old new pinned0 pinned1 before after c fault.Full lawful alone reads cause blames undamaged = absurd cause
-pin_stopped s show old new pinned0 pinned1 before after c fault.NotEmpty lawful alone reads cause blames undamaged = absurd cause
-pin_stopped s show old new pinned0 pinned1 before after c (fault.NoRoom pages needed) lawful alone reads cause blames undamaged = absurd cause
-pin_stopped s show old new pinned0 pinned1 before after c fault.Worn lawful alone reads cause blames undamaged = absurd cause
-pin_stopped s show old new pinned0 pinned1 before after c fault.Stopped lawful alone reads cause blames undamaged = absurd cause
-pin_stopped s show old new pinned0 pinned1 before after c fault.Commit lawful alone reads cause blames undamaged = absurd cause
+pin_stopped s show old new pinned0 pinned1 before after c fault.Disk valid alone reads cause blames undamaged = carried_stopped s show old new pinned0 pinned1 before after c valid alone reads stop.Disk cause (λ all. tt)
+pin_stopped s show old new pinned0 pinned1 before after c (fault.Damaged f) valid alone reads cause blames undamaged =
+    carried_stopped s show old new pinned0 pinned1 before after c valid alone reads (stop.Damaged f) (walk_damage f cause.0, λ can. undamaged can.1.sound)
+    (λ all. blames_stands old.file before after alone.stands.opens reads.same.same_known (fault.Damaged f) (λ g is. reads.same.same_bytes) blames)
+pin_stopped s show old new pinned0 pinned1 before after c fault.Memory valid alone reads cause blames undamaged = carried_stopped s show old new pinned0 pinned1 before after c valid alone reads stop.Memory tt (λ all. tt)
+pin_stopped s show old new pinned0 pinned1 before after c fault.Full valid alone reads cause blames undamaged = absurd cause
+pin_stopped s show old new pinned0 pinned1 before after c fault.NotEmpty valid alone reads cause blames undamaged = absurd cause
+pin_stopped s show old new pinned0 pinned1 before after c (fault.NoRoom pages needed) valid alone reads cause blames undamaged = absurd cause
+pin_stopped s show old new pinned0 pinned1 before after c fault.Worn valid alone reads cause blames undamaged = absurd cause
+pin_stopped s show old new pinned0 pinned1 before after c fault.Stopped valid alone reads cause blames undamaged = absurd cause
+pin_stopped s show old new pinned0 pinned1 before after c fault.Commit valid alone reads cause blames undamaged = absurd cause

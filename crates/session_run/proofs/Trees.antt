@@ -189,10 +189,10 @@ guarded_live nodes t (Some f) generation pinned spare = (
   },
 )
 
-pub goes_from_root : {M : Type 0} (index : OpenIndex M) (disk : DiskState) (c : PinnedCursor) (q : List ℕ) → StandsAlone index disk → IsPinned index.file.live.generation index → c.cursor ≡ begun index.file.live q → IsTrue disk.tells →
+pub goes_from_root : {M : Type 0} (index : OpenIndex M) (disk : DiskState) (c : PinnedCursor) (q : List ℕ) → StandsAlone index disk → IsPinned index.file.live.generation index → c.cursor ≡ begun index.file.live q → IsTrue disk.is_known →
     GoesThrough index disk.bytes c
-goes_from_root index disk c q alone pinned begins tells =
-    let live = guarded_live (nodes_on index.file disk) index.file.live index.free index.file.live.generation pinned (alone.spare tells) in
+goes_from_root index disk c q alone pinned begins is_known =
+    let live = guarded_live (nodes_on index.file disk) index.file.live index.free index.file.live.generation pinned (alone.spare is_known) in
     subst (λ (o : OpenCursor). GoesThrough index disk.bytes (record { number = c.number; cursor = o })) (sym begins) (record {
       tree = live.0;
       stands = live.1;

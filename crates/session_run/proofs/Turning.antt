@@ -66,7 +66,7 @@ module _ {M : Type 0} (s : Space) (show : Bool) (old new : OpenIndex M) (pinned0
     going = tt;
     head = tt;
     metric = tt;
-    tells = did.tells;
+    is_known = did.is_known;
     later = did.later;
     out_later = omega arith;
     log_later = omega arith;
@@ -100,7 +100,7 @@ module _ {M : Type 0} (s : Space) (show : Bool) (old new : OpenIndex M) (pinned0
     going = tt;
     head = tt;
     metric = tt;
-    tells = did.tells;
+    is_known = did.is_known;
     later = did.later;
     out_later = omega arith;
     log_later = omega arith;
@@ -124,7 +124,7 @@ module _ {M : Type 0} (s : Space) (show : Bool) (old new : OpenIndex M) (pinned0
     going = did.going;
     head = did.head;
     metric = did.metric;
-    tells = did.tells;
+    is_known = did.is_known;
     later = did.later;
     out_later = out_later;
     log_later = log_later;
@@ -162,7 +162,7 @@ module _ {M : Type 0} (s : Space) (show : Bool) (old new : OpenIndex M) (pinned0
     going = tt;
     head = tt;
     metric = tt;
-    tells = did.tells;
+    is_known = did.is_known;
     later = did.later;
     out_later = out_later;
     log_later = log_later;

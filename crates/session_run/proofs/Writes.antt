@@ -17,7 +17,7 @@ use Rattle.answer_texts.specs.Asked.{HasLog, answered_query}
 use Rattle.index_core.specs.declared.faults.IndexFault.{IndexFault}
 use Rattle.index_core.specs.declared.faults.IndexFault.TheVariants as fault
 use Rattle.index_core.specs.Answers.{IsSoundOn, points_on, tags_on}
-use Rattle.index_core.specs.Files.{IsLawfulFile, OnlyReads}
+use Rattle.index_core.specs.Files.{IsValidFile, OnlyReads}
 use Rattle.index_core.specs.Index.{OpenIndex, StandsAlone}
 use Rattle.index_core.specs.Writing.{Write, HasObjects, HasWritten, IsRefused, answer_to, points_after, tags_after}
 use Rattle.session_run.specs.declared.stop.SessionStop.{SessionStop}
@@ -68,11 +68,11 @@ pub record IsWriteOf {M : Type 0} (s : Space) (old : OpenIndex M) (cursors : Ope
   pub stands : IfErr result (λ why. IfErr (answer_of_fault why) (StandsBy old.file.head after))
   pub accepts_says : (n : ℕ) → accepts (says n) ≡ true
   pub tags_says : (n : ℕ) → TagsAre (says n)
-  pub tells : after.tells ≡ before.tells
+  pub is_known : after.is_known ≡ before.is_known
   pub later : before.faults ≤ after.faults
 
 module _ {M : Type 0} (s : Space) (show : Bool) (old new : OpenIndex M) (cursors : OpenCursors) (before after : DiskState) (c : Command) (write : Write) (says : ℕ → Reply)
-    (lawful : IsLawfulFile s.words old.file) (alone : StandsAlone old before) (going : old.stopped ≡ false) where
+    (valid : IsValidFile s.dimension old.file) (alone : StandsAlone old before) (going : old.stopped ≡ false) where
   abbrev Meant : Type 0
   Meant = step (setting_of s old.file) (state_on old.file before cursors) c ≡ record {
     reply = says (answer_to write old.file.live.count);
@@ -97,7 +97,7 @@ module _ {M : Type 0} (s : Space) (show : Bool) (old new : OpenIndex M) (cursors
     going = ap (λ (i : OpenIndex M). i.stopped) written.next.is ∙ going;
     head = ap (λ (i : OpenIndex M). i.file.head) written.next.is;
     metric = ap (λ (i : OpenIndex M). i.file.metric) written.next.is;
-    tells = of.tells;
+    is_known = of.is_known;
     later = of.later;
     spelled = tt;
     tagged = λ taking. of.tags_says n;
@@ -148,9 +148,9 @@ module _ {M : Type 0} (s : Space) (show : Bool) (old new : OpenIndex M) (cursors
       (IsSoundOn s old.file before → IsHindrance s old.file.head (held_on old.file before) c hindrance) →
       HasStepped s show old new cursors cursors before after c (Ok (plain_answer (reply.Refused r)))
   refused why r hindrance other written of meaning hinders =
-      read_stepped s show old new cursors cursors before after c (plain_answer (reply.Refused r)) lawful alone (ap (λ (i : OpenIndex M). i.stopped) (written.refused other).is ∙ going) reads
+      read_stepped s show old new cursors cursors before after c (plain_answer (reply.Refused r)) valid alone (ap (λ (i : OpenIndex M). i.stopped) (written.refused other).is ∙ going) reads
       tt (λ taking. tt)
-      (λ sound. read_taken s show old new.file cursors cursors before after c (plain_answer (reply.Refused r)) hindrance (reply.Refused r) lawful alone reads sound meaning refl (hinders sound) (unlogged of.unasked) refl
+      (λ sound. read_taken s show old new.file cursors cursors before after c (plain_answer (reply.Refused r)) hindrance (reply.Refused r) valid alone reads sound meaning refl (hinders sound) (unlogged of.unasked) refl
       (λ asks. absurd (asks_none old.file.live.count c write of.writes asks)))
     where
       reads : OnlyReads old.file new.file before after
@@ -165,7 +165,7 @@ module _ {M : Type 0} (s : Space) (show : Bool) (old new : OpenIndex M) (cursors
   ended : (why : IndexFault) (end : SessionStop) → why ≢ fault.Commit → HasWritten s write old new before after (Err why) → before.faults ≤ after.faults →
       HasStepCause (IsSoundOn s old.file before) before after end → StandsBy old.file.head after end → HasStepped s show old new cursors cursors before after c (Err end)
   ended why end other written later cause stands =
-      read_stopped s show old new cursors cursors before after c end lawful alone (refused_reads old new before after (written.refused other) later) cause stands
+      read_stopped s show old new cursors cursors before after c end valid alone (refused_reads old new before after (written.refused other) later) cause stands
 
   meant_written : Meant → Written (step (setting_of s old.file) (state_on old.file before cursors) c).state
   meant_written meant = (ap (λ (done : Step). done.state.objects.points) meant, ap (λ (done : Step). done.state.objects.tags) meant)
@@ -176,7 +176,7 @@ module _ {M : Type 0} (s : Space) (show : Bool) (old new : OpenIndex M) (cursors
     going = tt;
     head = tt;
     metric = tt;
-    tells = of.tells;
+    is_known = of.is_known;
     later = of.later;
     spelled = tt;
     tagged = tt;

@@ -17,8 +17,8 @@ load (Some tags) rows = TagLoad tags rows
 
 -- It is refused where there is no row, and where points have another number of coordinates.
 abbrev pub load_of : Table → Option (List ℕ) → ℕ → List Command
-load_of rows tags words =
-    (if rows.words == words then (if length rows.points == 0 then Bad NoCount else load tags rows) else Bad Dimension) ∷ []
+load_of rows tags dimension =
+    (if rows.dimension == dimension then (if length rows.points == 0 then Bad NoCount else load tags rows) else Bad Dimension) ∷ []
 
 -- an insert of row i
 abbrev pub insert : Option (List ℕ) → List (List ℕ) → ℕ → Command
@@ -26,8 +26,8 @@ insert None points i = Insert (slice_index_or points i [])
 insert (Some tags) points i = TagInsert (slice_index tags i) (slice_index_or points i [])
 
 abbrev pub insert_at : Table → Option (List ℕ) → ℕ → ℕ → Command
-insert_at rows tags words i = if rows.words == words then insert tags rows.points i else Bad Dimension
+insert_at rows tags dimension i = if rows.dimension == dimension then insert tags rows.points i else Bad Dimension
 
 -- one insert for each row, in order; each is refused where points have another number of coordinates
 abbrev pub inserts_of : Table → Option (List ℕ) → ℕ → List Command
-inserts_of rows tags words = firsts (insert_at rows tags words) (length rows.points)
+inserts_of rows tags dimension = firsts (insert_at rows tags dimension) (length rows.points)

@@ -31,7 +31,7 @@ AreNumbered low next (c ∷ cursors) = (low ≤ c.number) × AreNumbered (c.numb
 -- A cursor that can be stepped: the generation of its tree is pinned, its point is one of the space, and its tree may be a file's.
 pub record IsKeptBy {M : Type 0} (s : Space) (index : OpenIndex M) (c : PinnedCursor) : Type 0 where
   pub pinned : IsPinned c.cursor.live.generation index
-  pub point : IsTrue (s.fits c.cursor.point)
+  pub point : IsTrue (s.is_point c.cursor.point)
   pub few : c.cursor.live.pages ≤ 2 ^ 24
 
 -- all cursors can be stepped, and each has a number of its own
@@ -46,7 +46,7 @@ HoldSame tree before after = AllByRecursion (λ page. page_of after page ≡ pag
 -- Pages that a pin guards are still guarded, and hold what they held.
 pub record KeepsGuarded {M : Type 0} (old new : OpenIndex M) (before after : DiskState) : Type 0 where
   pub guarded : (generation : ℕ) (tree : List ℕ) → GuardsPages generation tree old → GuardsPages generation tree new
-  pub kept : IsTrue before.tells → (generation : ℕ) (tree : List ℕ) → GuardsPages generation tree old → HoldSame tree before.bytes after.bytes
+  pub kept : IsTrue before.is_known → (generation : ℕ) (tree : List ℕ) → GuardsPages generation tree old → HoldSame tree before.bytes after.bytes
 
 -- the nodes of the pages that hold a cursor's tree
 abbrev pub nodes_for : {M : Type 0} → OpenIndex M → List ℕ → PinnedCursor → Nodes
@@ -63,7 +63,7 @@ pub record GoesThrough {M : Type 0} (index : OpenIndex M) (bytes : List ℕ) (c 
 
 -- all cursors go through their trees, where the disk tells its bytes
 abbrev pub AllGoThrough : {M : Type 0} → OpenIndex M → DiskState → PinnedCursors → Type 0
-AllGoThrough index disk pinned = IsTrue disk.tells → AllByRecursion (GoesThrough index disk.bytes) pinned.cursors.items
+AllGoThrough index disk pinned = IsTrue disk.is_known → AllByRecursion (GoesThrough index disk.bytes) pinned.cursors.items
 
 -- ---- pins
 

@@ -138,7 +138,7 @@ pub record IsDamageIn (head : Head) (bytes : List ℕ) (fault : PageFault) : Typ
 
 -- the same for a session that stopped, where the disk tells its bytes
 abbrev pub StandsBy : Head → DiskState → SessionStop → Type 0
-StandsBy head disk (stop.Damaged fault) = IsTrue disk.tells → IsDamageIn head disk.bytes fault
+StandsBy head disk (stop.Damaged fault) = IsTrue disk.is_known → IsDamageIn head disk.bytes fault
 StandsBy head disk _ = Unit {0}
 
 -- Why a session stops: an output failed; the disk failed; a page is damaged, of a file that was not sound; or memory ran out.

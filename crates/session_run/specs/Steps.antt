@@ -16,7 +16,7 @@ use Rattle.plain_scan.specs.OpenCursors.{OpenCursors, with_cursors}
 use Rattle.page_store.specs.declared.pages.PageFault.{PageFault}
 use Rattle.page_store.specs.declared.pages.PageFault.TheVariants as page
 use Rattle.log_model.specs.declared.logs.Found.{Found}
-use Rattle.log_model.specs.Grammar.{IsLawfulLog}
+use Rattle.log_model.specs.Grammar.{IsValidLog}
 use Rattle.hit_tags.specs.Tags.{IsShown, object_tags}
 use Rattle.answer_texts.specs.Answered.{framed, if_any}
 use Rattle.answer_texts.specs.Put.{IsCut}
@@ -97,9 +97,9 @@ pub record HasStepped {M : Type 0} (s : Space) (show : Bool) (old new : OpenInde
   pub going : OnOk result (new.stopped ≡ false)
   pub head : OnOk result (new.file.head ≡ old.file.head)
   pub metric : OnOk result (new.file.metric ≡ old.file.metric)
-  pub tells : after.tells ≡ before.tells
+  pub is_known : after.is_known ≡ before.is_known
   pub later : before.faults ≤ after.faults
-  pub spelled : IfOk result (λ a. MatchOption a.log (Unit {0}) IsLawfulLog)
+  pub spelled : IfOk result (λ a. MatchOption a.log (Unit {0}) IsValidLog)
   pub tagged : IfOk result (λ a. show ≡ true → TagsAre a.reply)
   pub cause : IfErr result (HasStepCause (IsSoundOn s old.file before) before after)
   pub stands : IfErr result (StandsBy old.file.head after)
@@ -113,11 +113,11 @@ pub record HasCarriedOut {M : Type 0} (s : Space) (show : Bool) (old new : OpenI
   pub going : OnOk result (new.stopped ≡ false)
   pub head : OnOk result (new.file.head ≡ old.file.head)
   pub metric : OnOk result (new.file.metric ≡ old.file.metric)
-  pub tells : after.tells ≡ before.tells
+  pub is_known : after.is_known ≡ before.is_known
   pub later : before.faults ≤ after.faults
   pub numbers : OnOk result (pinned1.next ≤ pinned0.next + 1)
   pub kept : OnOk result (AreKeptBy s new pinned1)
-  pub spelled : IfOk result (λ a. MatchOption a.log (Unit {0}) IsLawfulLog)
+  pub spelled : IfOk result (λ a. MatchOption a.log (Unit {0}) IsValidLog)
   pub tagged : IfOk result (λ a. show ≡ true → TagsAre a.reply)
   pub cause : IfErr result (HasStepCause (CanGoOn s old before pinned0) before after)
   pub stands : AllGoThrough old before pinned0 → IfErr result (StandsBy old.file.head after)
@@ -153,7 +153,7 @@ pub record IsShownAs {M : Type 0} (s : Space) (show : Bool) (file : OpenFile M) 
   pub tags : List ℕ
   pub is : answer ≡ record { reply = reply.Hits found.hits tags; log = Some found.log }
   pub each : show ≡ true → length tags ≡ length found.hits
-  pub objects : show ≡ true → IsTrue disk.tells → IsShown s (nodes_on file disk) file.live found → tags ≡ object_tags (nodes_on file disk) file.live found
+  pub objects : show ≡ true → IsTrue disk.is_known → IsShown s (nodes_on file disk) file.live found → tags ≡ object_tags (nodes_on file disk) file.live found
 
 -- a turn was put: the reply's text, and before it the frame of its log
 pub record IsPut {M : Type 0} (s : Space) (show : Bool) (old new : OpenFile M) (opened cursors : OpenCursors) (before after : DiskState) (c : Command)
@@ -188,7 +188,7 @@ pub record HasTurned {M : Type 0} (s : Space) (show : Bool) (old new : OpenIndex
   pub going : OnOk result (new.stopped ≡ false)
   pub head : OnOk result (new.file.head ≡ old.file.head)
   pub metric : OnOk result (new.file.metric ≡ old.file.metric)
-  pub tells : after.tells ≡ before.tells
+  pub is_known : after.is_known ≡ before.is_known
   pub later : before.faults ≤ after.faults
   pub out_later : out0.faults ≤ out1.faults
   pub log_later : log0.faults ≤ log1.faults

@@ -36,13 +36,13 @@ fn execute<W: Crew<M>, M: Metric, D: Disk>(
     requires stands { MayGoOn index.old (D.state disk.old) }
     requires numbers { cursors.old.next + 1 < 2 ^ 32 }
     requires kept { AreKeptBy (M.space index.old.file.metric) index.old cursors.old }
-    requires readable { IsReadable (M.space index.old.file.metric).words command.now }
+    requires readable { IsReadable (M.space index.old.file.metric).dimension command.now }
     requires points { IsTrue (has_points_of (M.space index.old.file.metric) command.now) }
     ensures stands { MayGoOn index.new (D.state disk.new) }
     ensures done { HasCarriedOut (M.space index.old.file.metric) show index.old index.new cursors.old cursors.new
         (D.state disk.old) (D.state disk.new) command.now result }
 {
-    index.is_lawful();
+    index.is_valid();
     match command {
         Command::Insert(p) => inserted(index.insert(alloc, disk, p.as_slice())),
         Command::TagInsert { tag, p } => {
@@ -81,12 +81,12 @@ pub fn step<W: Crew<M>, M: Metric, D: Disk>(
     requires stands { MayGoOn index.old (D.state disk.old) }
     requires numbers { cursors.old.next + 1 < 2 ^ 32 }
     requires kept { AreKeptBy (M.space index.old.file.metric) index.old cursors.old }
-    requires readable { IsReadable (M.space index.old.file.metric).words command.now }
+    requires readable { IsReadable (M.space index.old.file.metric).dimension command.now }
     ensures stands { MayGoOn index.new (D.state disk.new) }
     ensures done { HasCarriedOut (M.space index.old.file.metric) show index.old index.new cursors.old cursors.new
         (D.state disk.old) (D.state disk.new) command.now result }
 {
-    index.is_lawful();
+    index.is_valid();
     if !has_points_of(&index.metric(), command) {
         return Ok(Answer::plain(Reply::Refused(Refusal::Unfit)));
     }

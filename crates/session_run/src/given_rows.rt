@@ -17,7 +17,7 @@ pub struct GivenRows {
     width: usize,
     rows: Rows,
     tags: Option<Listed<u64>>,
-    ghost as_wide: { rows.words ≡ width },
+    ghost as_wide: { rows.dimension ≡ width },
     ghost wide: { All (λ p. length p ≡ width) rows.points },
     ghost few: { length rows.points < 2 ^ 32 },
     ghost each: { ForSome tags (λ ts. length ts ≡ length rows.points) },
@@ -34,7 +34,7 @@ pub struct RowsToInsert(pub GivenRows);
 // Copies `count` rows of `width` numbers, which stand one after another.
 fn rows_from(alloc: Global, cells: &[u32], width: usize, count: usize) -> Result<Rows, Memory>
     requires whole { length cells.now ≡ count * width }
-    ensures { IfOk result (λ rows. rows ≡ record { words = width; points = rows_of width count cells.now }) }
+    ensures { IfOk result (λ rows. rows ≡ record { dimension = width; points = rows_of width count cells.now }) }
 {
     let mut rows = Rows::new(alloc, width);
     for i in 0..count {
@@ -67,7 +67,7 @@ impl GivenRows {
         requires whole { length cells.now ≡ count * width }
         requires few { count < 2 ^ 32 }
         requires each { IsTrue tagged → length tags.now ≡ count }
-        ensures rows { IfOk result (λ given. given.rows ≡ record { words = width; points = rows_of width count cells.now }) }
+        ensures rows { IfOk result (λ given. given.rows ≡ record { dimension = width; points = rows_of width count cells.now }) }
         ensures tags { IfOk result (λ given. given.tags ≡ tags_if tagged tags.now) }
     {
         let rows = rows_from(alloc, cells, width, count)?;
@@ -75,13 +75,13 @@ impl GivenRows {
         Ok(GivenRows { width, rows, tags })
     }
 
-    // Returns the insert of row `i`, over points of `words` coordinates.
-    fn insert_at(&self, alloc: Global, words: usize, i: usize) -> Result<Command, Memory>
+    // Returns the insert of row `i`, over points of `dimension` coordinates.
+    fn insert_at(&self, alloc: Global, dimension: usize, i: usize) -> Result<Command, Memory>
         requires { i < length self.now.rows.points }
-        ensures command { IfOk result (λ command. command ≡ insert_at self.now.rows self.now.tags words i) }
-        ensures readable { IfOk result (IsReadable words) }
+        ensures command { IfOk result (λ command. command ≡ insert_at self.now.rows self.now.tags dimension i) }
+        ensures readable { IfOk result (IsReadable dimension) }
     {
-        if self.width != words {
+        if self.width != dimension {
             return Ok(Command::Bad(Refusal::Dimension));
         }
         let p = Point::new(alloc, self.rows.point(i))?;
@@ -95,13 +95,13 @@ impl GivenRows {
     }
 }
 
-// Returns the load of all rows, over points of `words` coordinates.
-fn load_of(given: GivenRows, words: usize) -> Command
-    ensures command { result ∷ [] ≡ load_of given.rows given.tags words }
-    ensures readable { IsReadable words result }
+// Returns the load of all rows, over points of `dimension` coordinates.
+fn load_of(given: GivenRows, dimension: usize) -> Command
+    ensures command { result ∷ [] ≡ load_of given.rows given.tags dimension }
+    ensures readable { IsReadable dimension result }
 {
     let GivenRows { width, rows, tags } = given;
-    if width != words {
+    if width != dimension {
         return Command::Bad(Refusal::Dimension);
     }
     if rows.is_empty() {
@@ -114,23 +114,23 @@ fn load_of(given: GivenRows, words: usize) -> Command
 }
 
 impl Requests for RowsToLoad {
-    ghost commands = { λ r words. load_of r.0.rows r.0.tags words };
+    ghost commands = { λ r dimension. load_of r.0.rows r.0.tags dimension };
 
-    fn read(self, alloc: Global, words: usize) -> Result<Vec<Command>, Memory> {
+    fn read(self, alloc: Global, dimension: usize) -> Result<Vec<Command>, Memory> {
         let RowsToLoad(given) = self;
-        let command = load_of(given, words);
+        let command = load_of(given, dimension);
         Ok(vec![in alloc; command]?)
     }
 }
 
 impl Requests for RowsToInsert {
-    ghost commands = { λ r words. inserts_of r.0.rows r.0.tags words };
+    ghost commands = { λ r dimension. inserts_of r.0.rows r.0.tags dimension };
 
-    fn read(self, alloc: Global, words: usize) -> Result<Vec<Command>, Memory> {
+    fn read(self, alloc: Global, dimension: usize) -> Result<Vec<Command>, Memory> {
         let given = &self.0;
         let mut commands = Vec::with_capacity(alloc, given.rows.len())?;
         for i in 0..given.rows.len() {
-            commands.push(given.insert_at(alloc, words, i)?)?;
+            commands.push(given.insert_at(alloc, dimension, i)?)?;
         }
         Ok(commands)
     }

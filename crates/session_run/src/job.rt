@@ -63,14 +63,14 @@ fn run_opened<W: Crew<MixSpace>, S: Requests, D: Disk, K: Sink, T: Sink>(
     requires ready { W.ready crew.now }
     requires going { opened.old.stopped ≡ false }
     requires stands { MayGoOn opened.old (D.state index.old) }
-    ensures runs { IsTrue (D.state index.old).tells → mix_kind opened.old.file.metric ≡ opened.old.file.head.kind →
+    ensures runs { IsTrue (D.state index.old).is_known → mix_kind opened.old.file.metric ≡ opened.old.file.head.kind →
         mix_dim opened.old.file.metric ≡ opened.old.file.head.dim →
         IsSoundTree (space_of opened.old.file.head) (nodes_on opened.old.file (D.state index.old)) opened.old.file.live →
         RunsOn (LeavesAll opened.old.file.head (state_in opened.old.file.head opened.old.file.live (D.state index.old).bytes)
         (D.state index.old) (D.state index.new))
         show_tags (S.commands requests) opened.old.file.head opened.old.file.live (D.state index.old).bytes (D.state index.new)
         (K.state out.old) (K.state out.new) (T.state log_out.old) (T.state log_out.new) result.0 }
-    ensures reads { result.0 ≡ 0 → IsTrue (D.state index.old).tells →
+    ensures reads { result.0 ≡ 0 → IsTrue (D.state index.old).is_known →
         mix_kind opened.old.file.metric ≡ opened.old.file.head.kind → mix_dim opened.old.file.metric ≡ opened.old.file.head.dim →
         IsSoundTree (space_of opened.old.file.head) (nodes_on opened.old.file (D.state index.old)) opened.old.file.live →
         AllByRecursion IsAsking (S.commands requests opened.old.file.head.dim) →
@@ -81,8 +81,8 @@ fn run_opened<W: Crew<MixSpace>, S: Requests, D: Disk, K: Sink, T: Sink>(
     ensures out_later { (K.state out.old).faults ≤ (K.state out.new).faults }
     ensures log_later { (T.state log_out.old).faults ≤ (T.state log_out.new).faults }
 {
-    opened.is_lawful();
-    let Ok(commands) = requests.read(alloc, opened.metric().words()) else {
+    opened.is_valid();
+    let Ok(commands) = requests.read(alloc, opened.metric().dimension()) else {
         return end_with(out, FAULT_MEMORY, 8);
     };
     let ended = session(

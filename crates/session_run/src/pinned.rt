@@ -67,7 +67,7 @@ fn step_cursor<M: Metric, D: Disk>(
     cursor: &mut Cursor,
     n: u64,
 ) -> Result<Stepped, PageFault>
-    requires point { IsTrue ((M.space index.now.file.metric).fits cursor.old.point) }
+    requires point { IsTrue ((M.space index.now.file.metric).is_point cursor.old.point) }
     requires few { cursor.old.live.pages ≤ 2 ^ 24 }
     requires some { 1 ≤ n }
     ensures same { IsUnchanged (D.state disk.old) (D.state disk.new) }
@@ -76,16 +76,16 @@ fn step_cursor<M: Metric, D: Disk>(
     ensures point { cursor.new.point ≡ cursor.old.point }
     ensures given { IfOk result (λ stepped. cursor.new.given ≡ cursor.old.given + length stepped.hits) }
     ensures each { IfOk result (λ stepped. length stepped.tags ≡ length stepped.hits) }
-    ensures walks { IfOk result (λ _. IsTrue (D.state disk.old).tells →
+    ensures walks { IfOk result (λ _. IsTrue (D.state disk.old).is_known →
         IsWalked (nodes_of (reading index.now.file.head.dim cursor.old.live.pages (D.state disk.old).bytes)) cursor.old →
         IsWalked (nodes_of (reading index.now.file.head.dim cursor.old.live.pages (D.state disk.old).bytes)) cursor.new) }
     ensures unchanged { OnErr result (cursor.new ≡ cursor.old) }
-    ensures gives { IfOk result (λ stepped. (nodes : Nodes) → IsTrue (D.state disk.old).tells →
+    ensures gives { IfOk result (λ stepped. (nodes : Nodes) → IsTrue (D.state disk.old).is_known →
         IsSoundTree (M.space index.now.file.metric) nodes cursor.old.live →
         HoldsTree index.now.file.head.dim nodes cursor.old.live (D.state disk.old).bytes →
         IsCursorOn (M.space index.now.file.metric) nodes cursor.old →
         GivesNext (M.space index.now.file.metric) nodes cursor.old cursor.new n stepped.hits stepped.tags) }
-    ensures sound { IfErr result (λ fault. (nodes : Nodes) → IsTrue (D.state disk.old).tells →
+    ensures sound { IfErr result (λ fault. (nodes : Nodes) → IsTrue (D.state disk.old).is_known →
         IsSoundTree (M.space index.now.file.metric) nodes cursor.old.live →
         HoldsTree index.now.file.head.dim nodes cursor.old.live (D.state disk.old).bytes →
         IsCursorOn (M.space index.now.file.metric) nodes cursor.old → IsPassing fault) }
@@ -93,7 +93,7 @@ fn step_cursor<M: Metric, D: Disk>(
         × HasPageCause cursor.old (disk_shelf Second index.now.file.head.dim cursor.old.live.pages (D.state disk.old) 0)
         (disk_shelf Second index.now.file.head.dim cursor.old.live.pages (D.state disk.new) asked) fault) }
 {
-    index.is_lawful();
+    index.is_valid();
     let mut pages = DiskPages::new(disk, index.head().dim, cursor.live().pages);
     let mut ruler = Meter::new(index.metric());
     cursor.step(alloc, &mut pages, &mut ruler, n)
@@ -115,7 +115,7 @@ fn pin_tree<M: Metric, D: Disk>(
     ensures reads { OnlyReads index.old.file index.new.file (D.state disk.old) (D.state disk.new) }
     ensures rest { index.new ≡ record index.old { file = index.new.file; free = index.new.free } }
     ensures pinned { OnOk result (IsPinned index.old.file.live.generation index.new) }
-    ensures guards { OnOk result (IsTrue (D.state disk.old).tells → (tree : List ℕ) →
+    ensures guards { OnOk result (IsTrue (D.state disk.old).is_known → (tree : List ℕ) →
         AreReached (nodes_on index.old.file (D.state disk.old)) index.old.file.live.root tree →
         GuardsPages index.old.file.live.generation tree index.new) }
     ensures guarded { (generation : ℕ) (tree : List ℕ) → GuardsPages generation tree index.old → GuardsPages generation tree index.new }
@@ -180,14 +180,14 @@ impl PinnedCursors {
     ) -> Result<Answer, SessionStop>
         requires going { index.old.stopped ≡ false }
         requires stands { MayGoOn index.old (D.state disk.old) }
-        requires point { IsTrue ((M.space index.old.file.metric).fits q.now) }
+        requires point { IsTrue ((M.space index.old.file.metric).is_point q.now) }
         requires numbers { self.old.next + 1 < 2 ^ 32 }
         requires kept { AreKeptBy (M.space index.old.file.metric) index.old self.old }
         ensures stands { MayGoOn index.new (D.state disk.new) }
         ensures done { HasCarriedOut (M.space index.old.file.metric) show index.old index.new self.old self.new (D.state disk.old)
             (D.state disk.new) (command.Cursor q.now) result }
     {
-        index.is_lawful();
+        index.is_valid();
         sound_trees_are_whole();
         if self.is_full() {
             return Ok(Answer::plain(Reply::Refused(Refusal::Cursors)));
@@ -224,7 +224,7 @@ impl PinnedCursors {
         ensures kept { AreKeptBy (M.space index.now.file.metric) index.now self.new }
         ensures next { self.new.next ≡ self.old.next }
         ensures tagged { IfOk result TagsAre }
-        ensures advanced { IfOk result (λ reply. (opened : OpenCursors) → IsTrue (D.state disk.old).tells →
+        ensures advanced { IfOk result (λ reply. (opened : OpenCursors) → IsTrue (D.state disk.old).is_known →
             StandFor (M.space index.now.file.metric) index.now (D.state disk.old).bytes self.old opened →
             HasAdvanced (M.space index.now.file.metric) index.now (D.state disk.new).bytes self.new opened number n reply) }
         ensures cause { IfErr result (HasStepCause (CanGoOn (M.space index.now.file.metric) index.now (D.state disk.old) self.old)

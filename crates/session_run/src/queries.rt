@@ -65,7 +65,7 @@ pub fn range<M: Metric, D: Disk>(
 ) -> Result<Answer, SessionStop>
     requires going { index.old.stopped ≡ false }
     requires stands { MayGoOn index.old (D.state disk.old) }
-    requires point { IsTrue ((M.space index.old.file.metric).fits q.now) }
+    requires point { IsTrue ((M.space index.old.file.metric).is_point q.now) }
     ensures stands { MayGoOn index.new (D.state disk.new) }
     ensures reads { OnlyReads index.old.file index.new.file (D.state disk.old) (D.state disk.new) }
     ensures rest { index.new ≡ record index.old { file = index.new.file } }
@@ -73,7 +73,7 @@ pub fn range<M: Metric, D: Disk>(
         HasStepped (M.space index.old.file.metric) show index.old index.new cursors cursors (D.state disk.old) (D.state disk.new)
         (command.Range r q.now) result }
 {
-    index.is_lawful();
+    index.is_valid();
     match index.range(alloc, disk, q.as_slice(), r) {
         Ok(found) => found_answer(alloc, index, disk, show, found),
         Err(fault) => answer_of_fault(fault),
@@ -91,7 +91,7 @@ pub fn nearest<M: Metric, D: Disk>(
 ) -> Result<Answer, SessionStop>
     requires going { index.old.stopped ≡ false }
     requires stands { MayGoOn index.old (D.state disk.old) }
-    requires point { IsTrue ((M.space index.old.file.metric).fits q.now) }
+    requires point { IsTrue ((M.space index.old.file.metric).is_point q.now) }
     requires some { 1 ≤ k }
     ensures stands { MayGoOn index.new (D.state disk.new) }
     ensures reads { OnlyReads index.old.file index.new.file (D.state disk.old) (D.state disk.new) }
@@ -100,7 +100,7 @@ pub fn nearest<M: Metric, D: Disk>(
         HasStepped (M.space index.old.file.metric) show index.old index.new cursors cursors (D.state disk.old) (D.state disk.new)
         (command.Nearest k q.now) result }
 {
-    index.is_lawful();
+    index.is_valid();
     match index.nearest(alloc, disk, q.as_slice(), k) {
         Ok(found) => found_answer(alloc, index, disk, show, found),
         Err(fault) => answer_of_fault(fault),

@@ -14,12 +14,12 @@ pub trait Requests: Drop {
     /// The commands for points of a number of coordinates.
     ghost commands: { Self → ℕ → List Asked };
 
-    /// Returns the commands for points of `words` coordinates.
-    fn read(self, alloc: Global, words: usize) -> Result<Vec<Command>, Memory>
-        requires some_words { 1 ≤ words }
-        requires few_words { words ≤ 64 }
-        ensures commands { IfOk result (λ asked. asked.items ≡ commands self words) }
-        ensures readable { IfOk result (λ asked. All (IsReadable words) asked.items) }
+    /// Returns the commands for points of `dimension` coordinates.
+    fn read(self, alloc: Global, dimension: usize) -> Result<Vec<Command>, Memory>
+        requires some_words { 1 ≤ dimension }
+        requires few_words { dimension ≤ 64 }
+        ensures commands { IfOk result (λ asked. asked.items ≡ commands self dimension) }
+        ensures readable { IfOk result (λ asked. All (IsReadable dimension) asked.items) }
         ensures few { IfOk result (λ asked. length asked.items < 2 ^ 32) };
 }
 
@@ -43,7 +43,7 @@ impl<'a> ScriptBytes<'a> {
 impl Requests for ScriptBytes<'_> {
     ghost commands = { λ s. asked_by s.bytes.now };
 
-    fn read(self, alloc: Global, words: usize) -> Result<Vec<Command>, Memory> {
-        read_script(alloc, self.bytes, words)
+    fn read(self, alloc: Global, dimension: usize) -> Result<Vec<Command>, Memory> {
+        read_script(alloc, self.bytes, dimension)
     }
 }

@@ -48,13 +48,13 @@ fn turn<W: Crew<M>, M: Metric, D: Disk, K: Sink, T: Sink>(
     requires stands { MayGoOn index.old (D.state disk.old) }
     requires numbers { cursors.old.next + 1 < 2 ^ 32 }
     requires kept { AreKeptBy (M.space index.old.file.metric) index.old cursors.old }
-    requires readable { IsReadable (M.space index.old.file.metric).words command.now }
+    requires readable { IsReadable (M.space index.old.file.metric).dimension command.now }
     ensures stands { MayGoOn index.new (D.state disk.new) }
     ensures turned { HasTurned (M.space index.old.file.metric) show index.old index.new cursors.old cursors.new (D.state disk.old)
         (D.state disk.new) command.now
         (K.state out.old) (K.state out.new) (T.state log_out.old) (T.state log_out.new) result }
 {
-    index.is_lawful();
+    index.is_valid();
     let answer = step(crew, alloc, index, cursors, disk, show, command)?;
     let texts = texts_of(alloc, &answer.reply, &answer.log, show)?;
     Ok(texts.put(out, log_out)?)
@@ -71,7 +71,7 @@ fn turn<W: Crew<M>, M: Metric, D: Disk, K: Sink, T: Sink>(
 /// least one. A crash at any moment leaves the objects after some first commands; at the end, at least those of the acknowledged
 /// ones.
 /// Clauses: what is asked of the caller (`ready`, `going`, `stands`, `few`, `readable`); what the session does, and what a crash may leave
-/// (`run`); what stays (`stands`, `going`, `head`, `tells`); what is written (`grew`, `log_grew`); the cause of an error (`cause`,
+/// (`run`); what stays (`stands`, `going`, `head`, `is_known`); what is written (`grew`, `log_grew`); the cause of an error (`cause`,
 /// `damage`); faults of the devices (`later`, `out_later`, `log_later`).
 /// Arguments: `crew` does the work of loads, `index` and `disk` are the index and its file, `commands` and `show` say what is asked, and
 /// `out` and `log_out` are written.
@@ -89,7 +89,7 @@ pub fn session<W: Crew<M>, M: Metric, D: Disk, K: Sink, T: Sink>(
     requires going { index.old.stopped ≡ false }
     requires stands { MayGoOn index.old (D.state disk.old) }
     requires few { length commands.now < 2 ^ 32 }
-    requires readable { All (IsReadable (M.space index.old.file.metric).words) commands.now }
+    requires readable { All (IsReadable (M.space index.old.file.metric).dimension) commands.now }
     ensures stands { MayGoOn index.new (D.state disk.new) }
     ensures run { IsSoundOn (M.space index.old.file.metric) index.old.file (D.state disk.old) →
         HasRun (setting_of (M.space index.old.file.metric) index.old.file) index.old.file.head show commands.now
@@ -103,7 +103,7 @@ pub fn session<W: Crew<M>, M: Metric, D: Disk, K: Sink, T: Sink>(
         (D.state disk.old) (D.state disk.new) (K.state out.old) (K.state out.new) (T.state log_out.old) (T.state log_out.new)) }
     // A page that is said to be damaged is one that child numbers lead to, and is damaged.
     ensures damage { MatchOption result.stopped (Unit {0}) (StandsBy index.old.file.head (D.state disk.new)) }
-    ensures tells { (D.state disk.new).tells ≡ (D.state disk.old).tells }
+    ensures is_known { (D.state disk.new).is_known ≡ (D.state disk.old).is_known }
     ensures later { (D.state disk.old).faults ≤ (D.state disk.new).faults }
     ensures out_later { (K.state out.old).faults ≤ (K.state out.new).faults }
     ensures log_later { (T.state log_out.old).faults ≤ (T.state log_out.new).faults }
@@ -111,7 +111,7 @@ pub fn session<W: Crew<M>, M: Metric, D: Disk, K: Sink, T: Sink>(
     ensures grew { Grew (K.state out.old) (K.state out.new) }
     ensures log_grew { Grew (T.state log_out.old) (T.state log_out.new) }
 {
-    index.is_lawful();
+    index.is_valid();
     let mut cursors = PinnedCursors::new(alloc);
     let mut acknowledged = 0u64;
     for command in commands {
@@ -133,7 +133,7 @@ pub fn session<W: Crew<M>, M: Metric, D: Disk, K: Sink, T: Sink>(
         }
         acknowledged += 1;
     }
-    index.is_lawful();
+    index.is_valid();
     cursors.close_all(index);
     Ended {
         acknowledged,

@@ -8,7 +8,7 @@ use Rattle.metric_laws.proofs.Published.{all_in}
 use Rattle.tree_shape.specs.declared.live.Live.{Live}
 use Rattle.tree_shape.specs.declared.entry.Node.{Node}
 use Rattle.tree_shape.specs.Tree.{IsNodePage}
-use Rattle.node_page.specs.Nodes.{IsLawfulNode, SpellsNode, fault_in, node_in}
+use Rattle.node_page.specs.Nodes.{IsValidNode, SpellsNode, fault_in, node_in}
 use Rattle.node_page.specs.Opening.{page_of}
 use Rattle.node_page.specs.declared.node.NodeFault.{NodeFault}
 use Rattle.node_page.specs.declared.node.Version.TheVariants.{Second}
@@ -37,20 +37,20 @@ place_of (s ∷ staged) page stands = elim stands [
 
 pub placements_can_follow : PlacementsCanFollow
 placements_can_follow head t numbers added placed side is =
-    let lawful = is.lawful in (
+    let valid = is.valid in (
       record {
         sides = (let e = is.side in omega (arith, e, side));
         generation = is.generation;
-        not_worn = lawful.high_generation;
-        low_root = lawful.low_root;
-        high_root = lawful.high_root;
-        height = lawful.height;
+        not_worn = valid.high_generation;
+        low_root = valid.low_root;
+        high_root = valid.high_root;
+        height = valid.height;
         low_pages = (let e = is.pages in omega (arith, e));
-        high_pages = lawful.high_pages;
+        high_pages = valid.high_pages;
       },
       record {
-        within = λ k s stands. (at_place (λ s. IsWithin placed.next.pages s.page × IsLawfulNode head.dim s.node) placed.staged is.nodes k s stands).0;
-        lawful = λ k s stands. (at_place (λ s. IsWithin placed.next.pages s.page × IsLawfulNode head.dim s.node) placed.staged is.nodes k s stands).1;
+        within = λ k s stands. (at_place (λ s. IsWithin placed.next.pages s.page × IsValidNode head.dim s.node) placed.staged is.nodes k s stands).0;
+        valid = λ k s stands. (at_place (λ s. IsWithin placed.next.pages s.page × IsValidNode head.dim s.node) placed.staged is.nodes k s stands).1;
         every = λ p low high. place_of placed.staged p (is.new_pages p low high);
       },
     )

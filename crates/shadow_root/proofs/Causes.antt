@@ -6,7 +6,7 @@ use Rattle.outside_io.specs.Causes.{Rose}
 use Rattle.disk_model.specs.Disk.{DiskState, IsUnchanged}
 use Rattle.tree_shape.specs.declared.live.Live.{Live}
 use Rattle.node_page.specs.Heads.{SpellsHead, head_fault}
-use Rattle.node_page.specs.Opening.{page_of, IsLawfulLive, OpensTo, Unopened, slot_fault, open_fault}
+use Rattle.node_page.specs.Opening.{page_of, IsValidLive, OpensTo, Unopened, slot_fault, open_fault}
 use Rattle.node_page.specs.Opening.Unopened.{Short as TooShort, NoHead}
 use Rattle.node_page.specs.declared.head.Head.{Head}
 use Rattle.node_page.specs.declared.head.HeadFault.{HeadFault}
@@ -40,10 +40,10 @@ unfolding open_fault
 with_slots file why long none is = rw (test_false (length file) 12288 long, none, is) refl
 
 -- a refusal of the head, after calls that left the disk as it was
-pub head_cause : (old mid new : DiskState) (fault : OpenFault) → IsUnchanged old mid → old.faults ≤ mid.faults → (IsTrue old.tells → 12288 ≤ length old.bytes) → HasHeadCause mid new fault → HasOpenCause old new fault
+pub head_cause : (old mid new : DiskState) (fault : OpenFault) → IsUnchanged old mid → old.faults ≤ mid.faults → (IsTrue old.is_known → 12288 ≤ length old.bytes) → HasHeadCause mid new fault → HasOpenCause old new fault
 head_cause old mid new Disk same later long cause = rose_earlier old.faults mid.faults new.faults later cause
-head_cause old mid new (HeadWas fault) same later long cause = λ tells.
-    with_head old.bytes fault (long tells) (subst (λ (b : List ℕ). head_fault (page_of b 0) ≡ Some fault) same.same_bytes (cause (subst (λ (b : Bool). IsTrue b) (sym same.same_tells) tells)))
+head_cause old mid new (HeadWas fault) same later long cause = λ is_known.
+    with_head old.bytes fault (long is_known) (subst (λ (b : List ℕ). head_fault (page_of b 0) ≡ Some fault) same.same_bytes (cause (subst (λ (b : Bool). IsTrue b) (sym same.same_known) is_known)))
 head_cause old mid new Short same later long cause = absurd cause
 head_cause old mid new Unfinished same later long cause = absurd cause
 head_cause old mid new TwoRoots same later long cause = absurd cause
@@ -55,12 +55,12 @@ is_of head size file spells same = record { limit_is = ap (λ (h : Head). h.limi
 
 -- a refusal of the slots
 module _ (old mid new : DiskState) (head : Head) (size : ℕ) (same : IsUnchanged old mid) (later : old.faults ≤ mid.faults) (long : 12288 ≤ size)
-    (size_is : IsTrue old.tells → size ≡ length old.bytes) (spells : IsTrue old.tells → SpellsHead (page_of old.bytes 0) head) where
-  of_slots : (why : Unopened) → (IsTrue mid.tells → IsOf head.limit size mid.bytes → slot_fault mid.bytes ≡ Some why) → IsTrue old.tells → open_fault old.bytes ≡ Some why
-  of_slots why cause tells =
-      let told : IsTrue mid.tells = subst (λ (b : Bool). IsTrue b) (sym same.same_tells) tells in
-      let stands : slot_fault mid.bytes ≡ Some why = cause told (subst (λ (b : List ℕ). IsOf head.limit size b) (sym same.same_bytes) (is_of head size old.bytes (spells tells) (size_is tells))) in
-      with_slots old.bytes why (omega (arith, long, size_is tells)) (no_head_fault (page_of old.bytes 0) head (spells tells)) (subst (λ (b : List ℕ). slot_fault b ≡ Some why) same.same_bytes stands)
+    (size_is : IsTrue old.is_known → size ≡ length old.bytes) (spells : IsTrue old.is_known → SpellsHead (page_of old.bytes 0) head) where
+  of_slots : (why : Unopened) → (IsTrue mid.is_known → IsOf head.limit size mid.bytes → slot_fault mid.bytes ≡ Some why) → IsTrue old.is_known → open_fault old.bytes ≡ Some why
+  of_slots why cause is_known =
+      let told : IsTrue mid.is_known = subst (λ (b : Bool). IsTrue b) (sym same.same_known) is_known in
+      let stands : slot_fault mid.bytes ≡ Some why = cause told (subst (λ (b : List ℕ). IsOf head.limit size b) (sym same.same_bytes) (is_of head size old.bytes (spells is_known) (size_is is_known))) in
+      with_slots old.bytes why (omega (arith, long, size_is is_known)) (no_head_fault (page_of old.bytes 0) head (spells is_known)) (subst (λ (b : List ℕ). slot_fault b ≡ Some why) same.same_bytes stands)
 
   pub slot_cause : (fault : OpenFault) → HasSlotCause head.limit size mid new fault → HasOpenCause old new fault
   slot_cause Disk cause = rose_earlier old.faults mid.faults new.faults later cause
@@ -70,15 +70,15 @@ module _ (old mid new : DiskState) (head : Head) (size : ℕ) (same : IsUnchange
   slot_cause TwoRoots cause = of_slots _ cause
   slot_cause Slot cause = of_slots _ cause
 
-  pub opens_told : (live : Live) → (IsTrue mid.tells → IsOf head.limit size mid.bytes → LeadsTo head.limit size live mid.bytes) → IsTrue old.tells → OpensTo old.bytes head live
-  opens_told live leads tells =
-      let told : IsTrue mid.tells = subst (λ (b : Bool). IsTrue b) (sym same.same_tells) tells in
-      let to = subst (λ (b : List ℕ). LeadsTo head.limit size live b) same.same_bytes (leads told (subst (λ (b : List ℕ). IsOf head.limit size b) (sym same.same_bytes) (is_of head size old.bytes (spells tells) (size_is tells)))) in
+  pub opens_told : (live : Live) → (IsTrue mid.is_known → IsOf head.limit size mid.bytes → LeadsTo head.limit size live mid.bytes) → IsTrue old.is_known → OpensTo old.bytes head live
+  opens_told live leads is_known =
+      let told : IsTrue mid.is_known = subst (λ (b : Bool). IsTrue b) (sym same.same_known) is_known in
+      let to = subst (λ (b : List ℕ). LeadsTo head.limit size live b) same.same_bytes (leads told (subst (λ (b : List ℕ). IsOf head.limit size b) (sym same.same_bytes) (is_of head size old.bytes (spells is_known) (size_is is_known)))) in
       record {
-        long = omega (arith, long, size_is tells);
-        spells_head = spells tells;
+        long = omega (arith, long, size_is is_known);
+        spells_head = spells is_known;
         side = to.side;
         newest = to.newest;
         spells_slot = to.spells_slot;
-        lawful = subst (λ (n : ℕ). IsLawfulLive head.limit n live) (size_is tells) to.lawful;
+        valid = subst (λ (n : ℕ). IsValidLive head.limit n live) (size_is is_known) to.valid;
       }

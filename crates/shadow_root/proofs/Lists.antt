@@ -58,7 +58,7 @@ commits_keep_lists s head t next staged points tags old file sound follows for e
   | inl keeps ↦ inl (record {
     opens = with_head head t t old file sound.opens first keeps.opens;
     version = sound.version;
-    words = sound.words;
+    dimension = sound.dimension;
     tree = same_tree s (nodes_in head.dim t old) (nodes_in head.dim t file) t
         (λ page k.
         let within = all_in (IsNodePage t) (live_pages (nodes_in head.dim t old) t) page sound.tree.within k in
@@ -69,7 +69,7 @@ commits_keep_lists s head t next staged points tags old file sound follows for e
   | inr after ↦ inr (record {
     opens = with_head head t next old file sound.opens first after.opens;
     version = sound.version;
-    words = sound.words;
+    dimension = sound.dimension;
     tree = each (nodes_in head.dim next file) (in_place_is_written head.dim t next (live_pages (nodes_in head.dim t old) t) staged old file follows.low_pages sound.tree.within for after.in_place others);
   })
 ]

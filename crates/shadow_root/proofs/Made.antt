@@ -111,7 +111,7 @@ module _ (head : Head) (head_page slot zeros old new : List ℕ) (spells : Spell
     side = omega arith;
     newest = λ opened. let byte = open_byte new 1 opened in absurd (omega (arith, byte, other_shut));
     spells_slot = slot_by_fields (page_of new 1) first_live fields (byte_open new 0 gate);
-    lawful = record {
+    valid = record {
       low_generation = omega arith;
       high_generation = omega arith;
       low_root = omega arith;
@@ -131,10 +131,10 @@ module _ (head : Head) (head_page slot zeros old new : List ℕ) (spells : Spell
   }
 
   pub is_made : IsMade head new
-  is_made s words = record {
+  is_made s dimension = record {
     opens = opens;
     version = version;
-    words = words;
+    dimension = dimension;
     tree = empty_is_sound s (nodes_in head.dim first_live new) (leaf_read head.dim new
         (subst (λ (p : List ℕ). SpellsNode head.dim p (Leaf [])) (sym (apart 3 (omega arith) ∙ page3)) (zeros_are_leaf head.dim zeros are_zeros)));
   }

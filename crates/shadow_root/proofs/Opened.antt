@@ -6,7 +6,7 @@ use Rattle.tree_shape.specs.declared.live.Live.{Live}
 use Rattle.node_page.specs.Bytes.{number_at}
 use Rattle.node_page.specs.Slots.{SpellsSlot, HasSlotRest, slot_of}
 use Rattle.node_page.proofs.Published.{slot_is, rest_by_clear}
-use Rattle.node_page.specs.Opening.{slot_page, is_open, generation_of, slot_of_live, IsLawfulLive, live_side, live_at, live_of, is_clear, is_lawful_live, Unopened, slot_fault}
+use Rattle.node_page.specs.Opening.{slot_page, is_open, generation_of, slot_of_live, IsValidLive, live_side, live_at, live_of, is_clear, is_valid_live, Unopened, slot_fault}
 use Rattle.node_page.specs.Opening.Unopened.{Unfinished as NoGate, TwoRoots as TwoGates, BadSlot}
 use Rattle.node_page.specs.declared.slot.Slot.{Slot}
 use Rattle.shadow_root.specs.Opening.{told_as, side_of, number_of, HasSlots, LeadsTo}
@@ -131,7 +131,7 @@ module _ (first second : List ℕ) (limit size : ℕ) (file : List ℕ) (has : H
   page_is First = has.first_is
   page_is Second = has.second_is
 
-  pub slot_refused : (side : Side) → WinsOf side → (is_clear (page_by side) && is_lawful_live limit size (live_at (number_of side) (slot_of (page_by side)))) ≡ false → slot_fault file ≡ Some BadSlot
+  pub slot_refused : (side : Side) → WinsOf side → (is_clear (page_by side) && is_valid_live limit size (live_at (number_of side) (slot_of (page_by side)))) ≡ false → slot_fault file ≡ Some BadSlot
   unfolding slot_fault live_of
   slot_refused side is refused =
       rw (open_first, open_second, generation_first, generation_second)
@@ -146,8 +146,8 @@ module _ (first second : List ℕ) (limit size : ℕ) (file : List ℕ) (has : H
       subst (λ (s : Slot). SpellsSlot (slot_page file (number_of side)) s) (sym (slot_same (number_of side) slot gate)) (subst (λ (p : List ℕ). SpellsSlot p slot) (sym (page_is side)) spells)
 
   -- the open slot of the side that wins
-  pub leads : (side : Side) (slot : Slot) → WinsOf side → SpellsSlot (page_by side) slot → IsLawfulLive limit size (live_at (number_of side) slot) → LeadsTo limit size (live_at (number_of side) slot) file
-  leads First slot is spells lawful =
+  pub leads : (side : Side) (slot : Slot) → WinsOf side → SpellsSlot (page_by side) slot → IsValidLive limit size (live_at (number_of side) slot) → LeadsTo limit size (live_at (number_of side) slot) file
+  leads First slot is spells valid =
       let wins = side_facts (open_on first) (open_on second) (generation_on first) (generation_on second) First is in
       record {
         side = omega arith;
@@ -155,9 +155,9 @@ module _ (first second : List ℕ) (limit size : ℕ) (file : List ℕ) (has : H
             let less : generation_on second < generation_on first = wins.1 (sym open_second ∙ opened) in
             omega (arith, less, spells.generation, generation_second);
         spells_slot = spelled First slot spells (sym spells.gate ∙ wins.0);
-        lawful = lawful;
+        valid = valid;
       }
-  leads Second slot is spells lawful =
+  leads Second slot is spells valid =
       let wins = side_facts (open_on first) (open_on second) (generation_on first) (generation_on second) Second is in
       record {
         side = omega arith;
@@ -165,7 +165,7 @@ module _ (first second : List ℕ) (limit size : ℕ) (file : List ℕ) (has : H
             let less : generation_on first < generation_on second = wins.1 (sym open_first ∙ opened) in
             omega (arith, less, spells.generation, generation_first);
         spells_slot = spelled Second slot spells (sym spells.gate ∙ wins.0);
-        lawful = lawful;
+        valid = valid;
       }
 
 -- what the page of the live slot gave
@@ -174,18 +174,18 @@ module _ (first second : List ℕ) (limit size : ℕ) (side : Side) (wins : side
   page_at First = first
   page_at Second = second
 
-  pub leads_at_ok : (side2 : Side) → side ≡ side2 → (r : Result Live OpenFault) → IfOk r (λ live. (slot : Slot) × SpellsSlot (page_at side2) slot × (live ≡ live_at (number_of side2) slot)) → IfOk r (IsLawfulLive limit size)
+  pub leads_at_ok : (side2 : Side) → side ≡ side2 → (r : Result Live OpenFault) → IfOk r (λ live. (slot : Slot) × SpellsSlot (page_at side2) slot × (live ≡ live_at (number_of side2) slot)) → IfOk r (IsValidLive limit size)
       → IfOk r (λ live. (file : List ℕ) → HasSlots first second limit size file → LeadsTo limit size live file)
-  leads_at_ok First same (Ok live) spells lawful = λ file has.
+  leads_at_ok First same (Ok live) spells valid = λ file has.
       subst (λ (l : Live). LeadsTo limit size l file) (sym spells.2)
-      (leads first second limit size file has First spells.0 (wins ∙ ap (λ (s : Side). Ok s) same) spells.1 (subst (IsLawfulLive limit size) spells.2 lawful))
-  leads_at_ok Second same (Ok live) spells lawful = λ file has.
+      (leads first second limit size file has First spells.0 (wins ∙ ap (λ (s : Side). Ok s) same) spells.1 (subst (IsValidLive limit size) spells.2 valid))
+  leads_at_ok Second same (Ok live) spells valid = λ file has.
       subst (λ (l : Live). LeadsTo limit size l file) (sym spells.2)
-      (leads first second limit size file has Second spells.0 (wins ∙ ap (λ (s : Side). Ok s) same) spells.1 (subst (IsLawfulLive limit size) spells.2 lawful))
-  leads_at_ok side2 same (Err fault) spells lawful = tt
+      (leads first second limit size file has Second spells.0 (wins ∙ ap (λ (s : Side). Ok s) same) spells.1 (subst (IsValidLive limit size) spells.2 valid))
+  leads_at_ok side2 same (Err fault) spells valid = tt
 
   pub refused_at_err : (side2 : Side) → side ≡ side2 → (r : Result Live OpenFault)
-      → IfErr r (λ fault. (fault ≡ SlotFault) × ((is_clear (page_at side2) && is_lawful_live limit size (live_at (number_of side2) (slot_of (page_at side2)))) ≡ false))
+      → IfErr r (λ fault. (fault ≡ SlotFault) × ((is_clear (page_at side2) && is_valid_live limit size (live_at (number_of side2) (slot_of (page_at side2)))) ≡ false))
       → IfErr r (λ fault. (file : List ℕ) → HasSlots first second limit size file → slot_fault file ≡ told_as fault)
   refused_at_err side2 same (Ok live) refused = tt
   refused_at_err First same (Err fault) refused = λ file has.
@@ -202,9 +202,9 @@ not_clear page other none = test (is_clear page) refl
     test true is = absurd (none (rest_by_clear page is))
     test false is = refl
 
-pub not_lawful : (page : List ℕ) (slot : Slot) (limit size side : ℕ) → SpellsSlot page slot → is_lawful_live limit size (live_at side slot) ≡ false
-    → (is_clear page && is_lawful_live limit size (live_at side (slot_of page))) ≡ false
-not_lawful page slot limit size side spells is = rw (slot_is page slot spells, is) (last (is_clear page))
+pub not_valid : (page : List ℕ) (slot : Slot) (limit size side : ℕ) → SpellsSlot page slot → is_valid_live limit size (live_at side slot) ≡ false
+    → (is_clear page && is_valid_live limit size (live_at side (slot_of page))) ≡ false
+not_valid page slot limit size side spells is = rw (slot_is page slot spells, is) (last (is_clear page))
   where
     last : (b : Bool) → (b && false) ≡ false
     last true = refl

@@ -56,8 +56,8 @@ opens_by old new head live opens longer first slot newest = record {
   side = opens.side;
   newest = newest;
   spells_slot = subst (λ (page : List ℕ). SpellsSlot page (slot_of_live live)) (sym slot) opens.spells_slot;
-  lawful =
-      let law = opens.lawful in
+  valid =
+      let law = opens.valid in
       record {
         low_generation = law.low_generation;
         high_generation = law.high_generation;
@@ -101,7 +101,7 @@ module _ (dim : ℕ) (live : Live) (staged : List StagedNode) (start : DiskState
             (λ is. rw (page_generation image file (1 - live.side) (slot (1 + (1 - live.side)) (omega arith))) (opens.newest (same_open image file (1 - live.side) (slot (1 + (1 - live.side)) (omega arith)) is)));
       };
       tree = λ p inside. rewritten_page staged image file p rewritten (λ k s stands is. outside k s stands (subst (IsLivePage (nodes_in dim live start.bytes) live) (sym is) inside))
-          (omega (arith, inside.0.1, opens.lawful.room)) ∙ keeps.tree p inside;
+          (omega (arith, inside.0.1, opens.valid.room)) ∙ keeps.tree p inside;
     };
     others = λ p bytes which none same. rewritten_page staged image file p rewritten none (within p which) ∙ same image left;
     size = λ most low room images. rewritten.no_longer most (images image left) room;
@@ -115,7 +115,7 @@ module _ (dim : ℕ) (live : Live) (staged : List StagedNode) (start : DiskState
 
       within : (p : ℕ) → IsOldPage live p → 4096 * p + 4096 ≤ length image
       within p (inl zero_is) = omega (arith, opens.long)
-      within p (inr between) = omega (arith, opens.lawful.room, between.1)
+      within p (inr between) = omega (arith, opens.valid.room, between.1)
 
   -- a write within the other slot, after which that slot does not win
   pub kept_torn : (at count : ℕ) (old new : List ℕ) → IsKept dim live staged start old → Torn at count old new → gate_at (1 - live.side) ≤ at → at + count ≤ gate_at (1 - live.side) + 4096
@@ -128,7 +128,7 @@ module _ (dim : ℕ) (live : Live) (staged : List StagedNode) (start : DiskState
             (elsewhere (1 + live.side) (omega (arith, opens.side)) (omega (arith, opens.long, opens.side))) newest;
       };
       tree = λ p inside. elsewhere p (let far = inside.0.0 in omega (arith, far))
-          (omega (arith, inside.0.1, opens.lawful.room)) ∙ kept.tree.tree p inside;
+          (omega (arith, inside.0.1, opens.valid.room)) ∙ kept.tree.tree p inside;
     };
     others = λ p bytes which none same. elsewhere p (apart p which) (within p which) ∙ kept.others p bytes which none same;
     size = λ most low room images. let was = kept.size most low room images in let long = torn.no_longer in omega (arith, was, long, low, to);
@@ -147,7 +147,7 @@ module _ (dim : ℕ) (live : Live) (staged : List StagedNode) (start : DiskState
 
       within : (p : ℕ) → IsOldPage live p → 4096 * p + 4096 ≤ length old
       within p (inl is) = omega (arith, opens.long)
-      within p (inr between) = omega (arith, opens.lawful.room, between.1)
+      within p (inr between) = omega (arith, opens.valid.room, between.1)
 
 -- ---- one byte
 
@@ -184,15 +184,15 @@ module _ (dim : ℕ) (live : Live) (staged : List StagedNode) (start : DiskState
       let opened : slice_index mixed gate ≡ 165 = get_or-set_same image gate (slice_index mid.bytes gate) 0 (omega arith) ∙ is in
       rw (← gate_generation image mixed torn long) (stands.newest (byte_is_open mixed (1 - live.side) opened))
 
-  pub kept_closed : (mid : DiskState) → IsTrue mid.tells → ((image : List ℕ) → MayLeave mid image → Kept image) → MayLeave mid mid.bytes
+  pub kept_closed : (mid : DiskState) → IsTrue mid.is_known → ((image : List ℕ) → MayLeave mid image → Kept image) → MayLeave mid mid.bytes
       → ((one two : List ℕ) (i : ℕ) → MayLeave mid one → MayLeave mid two → i < length one → i < length two → MayLeave mid (set one i (slice_index two i)))
       → (file : List ℕ) → IsFromClosed gate mid file → Kept file
-  kept_closed mid tells keeps reads mix file from = ⊎_elim
+  kept_closed mid is_known keeps reads mix file from = ⊎_elim
       (λ same. subst Kept (sym same) (keeps from.0 from.1))
       (λ written.
       let opens = (keeps from.0 from.1).tree.opens.opens in
       kept_torn dim live staged start gate 1 from.0 file (keeps from.0 from.1) written.1 (omega arith) (omega arith)
-      (λ is. rw (gate_generation from.0 file written.1 (omega (arith, opens.long))) (loses mid keeps reads mix (written.0 tells) from.0 from.1)))
+      (λ is. rw (gate_generation from.0 file written.1 (omega (arith, opens.long))) (loses mid keeps reads mix (written.0 is_known) from.0 from.1)))
       from.2
 
   -- behind a closed gate anything may stand
@@ -300,14 +300,14 @@ module _ (dim : ℕ) (live next : Live) (staged : List StagedNode) (start : Disk
                 subst (λ (s : ℕ). generation_of new s < next.generation) (sym back) wins;
             spells_slot = subst (λ (s : ℕ). SpellsSlot (page_of new (1 + s)) (slot_of_live next)) (sym side)
                 (slot_by_fields (page_of new (1 + (1 - live.side))) next fields (byte_open new (1 - live.side) is));
-            lawful = record {
+            valid = record {
               low_generation = omega (arith, follows.generation);
               high_generation = follows.not_worn;
               low_root = follows.low_root;
               high_root = follows.high_root;
               height = follows.height;
               count = written.before.count;
-              low_pages = omega (arith, follows.low_pages, opens.lawful.low_pages);
+              low_pages = omega (arith, follows.low_pages, opens.valid.low_pages);
               high_pages = follows.high_pages;
               room = omega (arith, written.before.room, torn.no_shorter);
             };
@@ -325,7 +325,7 @@ module _ (dim : ℕ) (live next : Live) (staged : List StagedNode) (start : Disk
 
       within : (p : ℕ) → IsOldPage live p → 4096 * p + 4096 ≤ length old
       within p (inl is) = omega (arith, opens.long)
-      within p (inr between) = omega (arith, opens.lawful.room, between.1)
+      within p (inr between) = omega (arith, opens.valid.room, between.1)
 
       size : StaysWithin staged start new
       size most low room images = let was = written.before.kept.size most low room images in let long = torn.no_longer in omega (arith, was, long, low)

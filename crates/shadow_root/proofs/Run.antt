@@ -57,11 +57,11 @@ module _ (dim : ℕ) (live next : Live) (staged : List StagedNode) (start : Disk
       (λ image from. kept_from_rewritten dim live staged start from.0 image from.1 (ready.images from.0 from.1) from.2 (λ k s stands. (ready_nodes.within k s stands).0) ready.beside)
 
   -- the old gate
-  pub run_closed : (gate : ℕ) (mid disk : DiskState) → gate ≡ 4096 * (1 + next.side) → EachImage start mid Kept → IsTrue mid.tells → MayLeave mid mid.bytes → Mixes mid → EachImage mid disk (IsFromClosed gate mid) → EachImage start disk Kept
-  run_closed gate mid disk is run tells reads mix closing =
+  pub run_closed : (gate : ℕ) (mid disk : DiskState) → gate ≡ 4096 * (1 + next.side) → EachImage start mid Kept → IsTrue mid.is_known → MayLeave mid mid.bytes → Mixes mid → EachImage mid disk (IsFromClosed gate mid) → EachImage start disk Kept
+  run_closed gate mid disk is run is_known reads mix closing =
       let same : gate ≡ place = omega (arith, is, follows.sides) in
       joined start mid disk Kept run
-      (weakened mid disk (IsFromClosed gate mid) Kept closing (λ image from. kept_closed dim live staged start mid tells (now run) reads mix image (subst (λ (g : ℕ). IsFromClosed g mid image) same from)))
+      (weakened mid disk (IsFromClosed gate mid) Kept closing (λ image from. kept_closed dim live staged start mid is_known (now run) reads mix image (subst (λ (g : ℕ). IsFromClosed g mid image) same from)))
 
   -- the sync
   pub run_sync : (mid disk : DiskState) → EachImage start mid Kept → IsOneCall mid disk → ((image : List ℕ) → MayLeave disk image → MayLeave mid image) → EachImage start disk Kept
@@ -109,7 +109,7 @@ module _ (dim : ℕ) (live next : Live) (staged : List StagedNode) (start : Disk
             let last = ready_nodes.every (next.pages - 1) (omega arith) (omega arith) in
             let reached = long last.0 last.1 last.2 in
             omega (arith, reached, last.3)
-        | inr le ↦ omega (arith, kept_base.tree.opens.opens.lawful.room)
+        | inr le ↦ omega (arith, kept_base.tree.opens.opens.valid.room)
       ]
 
   -- ---- the second phase

@@ -5,7 +5,7 @@ use Rattle.tree_shape.specs.declared.live.Live.{Live}
 use Rattle.node_page.specs.declared.head.Head.{Head}
 use Rattle.node_page.specs.Bytes.{number_at}
 use Rattle.node_page.specs.Slots.{HasSlotRest}
-use Rattle.node_page.specs.Nodes.{SpellsNode, IsLawfulNode}
+use Rattle.node_page.specs.Nodes.{SpellsNode, IsValidNode}
 use Rattle.node_page.specs.Opening.{page_of, OpensTo}
 use Rattle.page_store.specs.declared.staging.StagedNode.{StagedNode}
 use Rattle.page_store.specs.Reading.{IsWithin}
@@ -58,7 +58,7 @@ pub record IsBeforeOrAfter (dim : ℕ) (live next : Live) (staged : List StagedN
 -- the staged nodes can be written on pages of `next`, and every page that is new is staged
 pub record IsStagedFor (dim : ℕ) (live next : Live) (staged : List StagedNode) : Type 0 where
   pub within : (k : ℕ) (s : StagedNode) → IsStagedAs staged k s → IsWithin next.pages s.page
-  pub lawful : (k : ℕ) (s : StagedNode) → IsStagedAs staged k s → IsLawfulNode dim s.node
+  pub valid : (k : ℕ) (s : StagedNode) → IsStagedAs staged k s → IsValidNode dim s.node
   pub every : (p : ℕ) → live.pages ≤ p → p < next.pages → (k : ℕ) × (s : StagedNode) × IsStagedAs staged k s × (s.page ≡ p)
 
 -- A disk that tells its bytes is ready for the commit. Its head has dimension `dim` and a limit that the next tree keeps. Each image
@@ -95,7 +95,7 @@ IsFromRewritten staged start file = (image : List ℕ) × MayLeave start image �
 -- the file is an image of the start, or one with a write at the gate's place, which read open where the disk tells its bytes
 abbrev pub IsFromClosed : ℕ → DiskState → List ℕ → Type 0
 IsFromClosed gate start file = (image : List ℕ) × MayLeave start image
-    × ((file ≡ image) ⊎ ((IsTrue start.tells → slice_index start.bytes gate ≡ 165) × Torn gate 1 image file))
+    × ((file ≡ image) ⊎ ((IsTrue start.is_known → slice_index start.bytes gate ≡ 165) × Torn gate 1 image file))
 
 -- a slot's page has the fields of `live` after its gate
 pub record HasFields (page : List ℕ) (live : Live) : Type 0 where

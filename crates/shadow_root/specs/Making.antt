@@ -17,7 +17,7 @@ first_live = record { side = 0; generation = 1; root = 3; height = 0; count = 0;
 
 -- the file is empty, and sound in each space of the head's dimension
 abbrev pub IsMade : Head → List ℕ → Type 0
-IsMade head file = (s : Space) → s.words ≡ head.dim → IsSoundFile s head first_live file
+IsMade head file = (s : Space) → s.dimension ≡ head.dim → IsSoundFile s head first_live file
 
 -- the file ends with its leaf, and nothing stands in its second slot
 pub record IsBare (file : List ℕ) : Type 0 where
@@ -26,5 +26,5 @@ pub record IsBare (file : List ℕ) : Type 0 where
 
 -- a file that holds something is left as it is; otherwise the disk failed
 abbrev pub HasCreateCause : DiskState → DiskState → CreateFault → Type 0
-HasCreateCause old new NotEmpty = (IsTrue old.tells → 0 < length old.bytes) × IsUnchanged old new
+HasCreateCause old new NotEmpty = (IsTrue old.is_known → 0 < length old.bytes) × IsUnchanged old new
 HasCreateCause old new Disk = Rose old.faults new.faults

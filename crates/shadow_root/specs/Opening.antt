@@ -5,7 +5,7 @@ use Rattle.disk_model.specs.Disk.{DiskState}
 use Rattle.tree_shape.specs.declared.live.Live.{Live}
 use Rattle.node_page.specs.Heads.{head_of, head_fault}
 use Rattle.node_page.specs.Slots.{SpellsSlot}
-use Rattle.node_page.specs.Opening.{page_of, slot_page, is_open, generation_of, slot_of_live, IsLawfulLive, Unopened, open_fault, slot_fault}
+use Rattle.node_page.specs.Opening.{page_of, slot_page, is_open, generation_of, slot_of_live, IsValidLive, Unopened, open_fault, slot_fault}
 use Rattle.node_page.specs.Opening.Unopened.{Short as TooShort, NoHead, Unfinished as NoGate, TwoRoots as TwoGates, BadSlot}
 use Rattle.shadow_root.specs.declared.opening.Side.{Side}
 use Rattle.shadow_root.specs.declared.opening.Side.TheVariants.{First, Second}
@@ -24,11 +24,11 @@ told_as Slot = Some BadSlot
 -- a refusal is the disk's failure, or the first fault of the bytes
 abbrev pub HasOpenCause : DiskState → DiskState → OpenFault → Type 0
 HasOpenCause old new Disk = Rose old.faults new.faults
-HasOpenCause old new Short = IsTrue old.tells → open_fault old.bytes ≡ Some TooShort
-HasOpenCause old new (Head fault) = IsTrue old.tells → open_fault old.bytes ≡ Some (NoHead fault)
-HasOpenCause old new Unfinished = IsTrue old.tells → open_fault old.bytes ≡ Some NoGate
-HasOpenCause old new TwoRoots = IsTrue old.tells → open_fault old.bytes ≡ Some TwoGates
-HasOpenCause old new Slot = IsTrue old.tells → open_fault old.bytes ≡ Some BadSlot
+HasOpenCause old new Short = IsTrue old.is_known → open_fault old.bytes ≡ Some TooShort
+HasOpenCause old new (Head fault) = IsTrue old.is_known → open_fault old.bytes ≡ Some (NoHead fault)
+HasOpenCause old new Unfinished = IsTrue old.is_known → open_fault old.bytes ≡ Some NoGate
+HasOpenCause old new TwoRoots = IsTrue old.is_known → open_fault old.bytes ≡ Some TwoGates
+HasOpenCause old new Slot = IsTrue old.is_known → open_fault old.bytes ≡ Some BadSlot
 
 -- the side of the live slot, by what is open and the generations
 abbrev pub side_of : Bool → Bool → ℕ → ℕ → Result Side OpenFault
@@ -53,7 +53,7 @@ pub record LeadsTo (limit size : ℕ) (live : Live) (file : List ℕ) : Type 0 w
   pub side : live.side ≤ 1
   pub newest : IsTrue (is_open file (1 - live.side)) → generation_of file (1 - live.side) < live.generation
   pub spells_slot : SpellsSlot (slot_page file live.side) (slot_of_live live)
-  pub lawful : IsLawfulLive limit size live
+  pub valid : IsValidLive limit size live
 
 -- the three refusals that the slots can have
 abbrev pub IsSlotFault : OpenFault → Type 0
@@ -74,14 +74,14 @@ abbrev pub HasSlotCause : ℕ → ℕ → DiskState → DiskState → OpenFault 
 HasSlotCause limit size old new Disk = Rose old.faults new.faults
 HasSlotCause limit size old new Short = ⊥
 HasSlotCause limit size old new (Head fault) = ⊥
-HasSlotCause limit size old new Unfinished = IsTrue old.tells → IsOf limit size old.bytes → slot_fault old.bytes ≡ Some NoGate
-HasSlotCause limit size old new TwoRoots = IsTrue old.tells → IsOf limit size old.bytes → slot_fault old.bytes ≡ Some TwoGates
-HasSlotCause limit size old new Slot = IsTrue old.tells → IsOf limit size old.bytes → slot_fault old.bytes ≡ Some BadSlot
+HasSlotCause limit size old new Unfinished = IsTrue old.is_known → IsOf limit size old.bytes → slot_fault old.bytes ≡ Some NoGate
+HasSlotCause limit size old new TwoRoots = IsTrue old.is_known → IsOf limit size old.bytes → slot_fault old.bytes ≡ Some TwoGates
+HasSlotCause limit size old new Slot = IsTrue old.is_known → IsOf limit size old.bytes → slot_fault old.bytes ≡ Some BadSlot
 
 -- why no head was read
 abbrev pub HasHeadCause : DiskState → DiskState → OpenFault → Type 0
 HasHeadCause old new Disk = Rose old.faults new.faults
-HasHeadCause old new (Head fault) = IsTrue old.tells → head_fault (page_of old.bytes 0) ≡ Some fault
+HasHeadCause old new (Head fault) = IsTrue old.is_known → head_fault (page_of old.bytes 0) ≡ Some fault
 HasHeadCause old new Short = ⊥
 HasHeadCause old new Unfinished = ⊥
 HasHeadCause old new TwoRoots = ⊥

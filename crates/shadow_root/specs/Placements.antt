@@ -65,7 +65,7 @@ pub record IsTreeOf (s : Space) (nodes : Nodes) (t : Live) (points : List (List 
 pub record IsFileOf (s : Space) (head : Head) (t : Live) (points : List (List ℕ)) (tags : List ℕ) (file : List ℕ) : Type 0 where
   pub opens : OpensTo file head t
   pub version : head.version ≡ 2
-  pub words : s.words ≡ head.dim
+  pub dimension : s.dimension ≡ head.dim
   pub tree : IsTreeOf s (nodes_in head.dim t file) t points tags
 
 -- What a commit on a sound file leaves at any moment has the old points and tags, or those of the next tree, where every file

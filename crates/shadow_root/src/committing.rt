@@ -3,7 +3,7 @@
 ghost use Rattle.std.specs.Prelude.{◌≡◌, ◌≢◌, ◌+◌, ◌*◌, ◌-◌, ◌^◌, ◌<◌, ◌≤◌, ℕ, length, slice_index, IsTrue, OnOk};
 ghost use Rattle.outside_io.specs.Causes.{HasCause};
 ghost use Rattle.disk_model.specs.Disk.{LeavesOnly, EachImage, Torn, Written};
-ghost use Rattle.node_page.specs.Nodes.{IsLawfulNode};
+ghost use Rattle.node_page.specs.Nodes.{IsValidNode};
 ghost use Rattle.node_page.specs.Opening.{slot_of_live};
 ghost use Rattle.page_store.specs.declared.staging.StagedNode.{StagedNode};
 ghost use Rattle.shadow_root.specs.Live.{IsSuccessor};
@@ -18,19 +18,19 @@ use tree_shape::{Live, PAGE};
 pub const OPEN: u8 = 0xa5;
 
 // Writes each staged node to its page.
-// Clauses: what is asked of the caller (`some`, `few`, `below`, `lawful`); what is left on the disk (`bytes`, `in_place`, `long`); what a
-// crash may leave (`images`); what stays (`tells`); the cost (`reads`); the cause of an error (`cause`).
+// Clauses: what is asked of the caller (`some`, `few`, `below`, `valid`); what is left on the disk (`bytes`, `in_place`, `long`); what a
+// crash may leave (`images`); what stays (`is_known`); the cost (`reads`); the cause of an error (`cause`).
 fn write_nodes<D: Disk>(disk: &mut D, dim: u8, staged: &Staged) -> Result<(), Failed>
     requires some { 1 ≤ dim }
     requires few { dim ≤ 64 }
     requires below { (k : ℕ) (s : StagedNode) → IsStagedAs staged.now k s → s.page < 2 ^ 24 }
-    requires lawful { (k : ℕ) (s : StagedNode) → IsStagedAs staged.now k s → IsLawfulNode dim s.node }
+    requires valid { (k : ℕ) (s : StagedNode) → IsStagedAs staged.now k s → IsValidNode dim s.node }
     ensures images { EachImage (D.state disk.old) (D.state disk.new) (IsFromRewritten staged.now (D.state disk.old)) }
-    ensures bytes { IsTrue (D.state disk.old).tells → IsRewritten staged.now (D.state disk.old).bytes (D.state disk.new).bytes }
-    ensures in_place { OnOk result (IsTrue (D.state disk.old).tells → IsInPlace dim staged.now (D.state disk.new).bytes) }
-    ensures long { OnOk result (IsTrue (D.state disk.old).tells
+    ensures bytes { IsTrue (D.state disk.old).is_known → IsRewritten staged.now (D.state disk.old).bytes (D.state disk.new).bytes }
+    ensures in_place { OnOk result (IsTrue (D.state disk.old).is_known → IsInPlace dim staged.now (D.state disk.new).bytes) }
+    ensures long { OnOk result (IsTrue (D.state disk.old).is_known
         → (k : ℕ) (s : StagedNode) → IsStagedAs staged.now k s → 4096 * s.page + 4096 ≤ length (D.state disk.new).bytes) }
-    ensures tells { (D.state disk.new).tells ≡ (D.state disk.old).tells }
+    ensures is_known { (D.state disk.new).is_known ≡ (D.state disk.old).is_known }
     ensures reads { (D.state disk.new).reads ≡ (D.state disk.old).reads }
     ensures cause { HasCause (D.state disk.old).faults (D.state disk.new).faults result }
 {
@@ -48,9 +48,9 @@ fn write_nodes<D: Disk>(disk: &mut D, dim: u8, staged: &Staged) -> Result<(), Fa
 fn close_gate<D: Disk>(disk: &mut D, gate: u64) -> Result<(), Failed>
     requires { gate < 2 ^ 37 }
     ensures images { EachImage (D.state disk.old) (D.state disk.new) (IsFromClosed gate (D.state disk.old)) }
-    ensures bytes { IsTrue (D.state disk.old).tells → Torn gate 1 (D.state disk.old).bytes (D.state disk.new).bytes }
-    ensures closed { OnOk result (IsTrue (D.state disk.old).tells → slice_index (D.state disk.new).bytes gate ≢ 165) }
-    ensures tells { (D.state disk.new).tells ≡ (D.state disk.old).tells }
+    ensures bytes { IsTrue (D.state disk.old).is_known → Torn gate 1 (D.state disk.old).bytes (D.state disk.new).bytes }
+    ensures closed { OnOk result (IsTrue (D.state disk.old).is_known → slice_index (D.state disk.new).bytes gate ≢ 165) }
+    ensures is_known { (D.state disk.new).is_known ≡ (D.state disk.old).is_known }
     ensures reads { (D.state disk.new).reads ≤ (D.state disk.old).reads + 1 }
     ensures cause { HasCause (D.state disk.old).faults (D.state disk.new).faults result }
 {
@@ -64,7 +64,7 @@ fn close_gate<D: Disk>(disk: &mut D, gate: u64) -> Result<(), Failed>
 
 // Writes the nodes beside the live tree and closes the other gate, all of it on the disk.
 // Clauses: what is asked of the caller (`some`, `few`, `successor`, `staged`, `ready`); what is left on the disk (`staged`); what a crash
-// may leave (`images`, `only`); what stays (`tells`); the cost (`reads`); the cause of an error (`cause`).
+// may leave (`images`, `only`); what stays (`is_known`); the cost (`reads`); the cause of an error (`cause`).
 fn stage<D: Disk>(
     disk: &mut D,
     dim: u8,
@@ -76,13 +76,13 @@ fn stage<D: Disk>(
     requires few { dim ≤ 64 }
     requires successor { IsSuccessor live.now next.now }
     requires staged { IsStagedFor dim live.now next.now staged.now }
-    requires ready { IsTrue (D.state disk.old).tells → IsReady dim live.now next.now staged.now (D.state disk.old) }
-    ensures images { IsTrue (D.state disk.old).tells → EachImage (D.state disk.old) (D.state disk.new)
+    requires ready { IsTrue (D.state disk.old).is_known → IsReady dim live.now next.now staged.now (D.state disk.old) }
+    ensures images { IsTrue (D.state disk.old).is_known → EachImage (D.state disk.old) (D.state disk.new)
         (IsKept dim live.now staged.now (D.state disk.old)) }
     ensures only { OnOk result (LeavesOnly (D.state disk.new) (D.state disk.new).bytes) }
-    ensures staged { OnOk result (IsTrue (D.state disk.old).tells
+    ensures staged { OnOk result (IsTrue (D.state disk.old).is_known
         → IsStaged dim live.now next.now staged.now (D.state disk.old) (D.state disk.new).bytes) }
-    ensures tells { (D.state disk.new).tells ≡ (D.state disk.old).tells }
+    ensures is_known { (D.state disk.new).is_known ≡ (D.state disk.old).is_known }
     ensures reads { (D.state disk.new).reads ≤ (D.state disk.old).reads + 1 }
     ensures cause { HasCause (D.state disk.old).faults (D.state disk.new).faults result }
 {
@@ -120,9 +120,9 @@ pub fn write_through<D: Disk>(disk: &mut D, at: u64, bytes: &[u8]) -> Result<(),
     requires only { LeavesOnly (D.state disk.old) (D.state disk.old).bytes }
     ensures images { EachImage (D.state disk.old) (D.state disk.new) (Torn at (length bytes.now) (D.state disk.old).bytes) }
     ensures only { OnOk result (LeavesOnly (D.state disk.new) (D.state disk.new).bytes) }
-    ensures written { OnOk result (IsTrue (D.state disk.old).tells →
+    ensures written { OnOk result (IsTrue (D.state disk.old).is_known →
         Written at bytes.now (D.state disk.old).bytes (D.state disk.new).bytes) }
-    ensures tells { (D.state disk.new).tells ≡ (D.state disk.old).tells }
+    ensures is_known { (D.state disk.new).is_known ≡ (D.state disk.old).is_known }
     ensures reads { (D.state disk.new).reads ≡ (D.state disk.old).reads }
     ensures cause { HasCause (D.state disk.old).faults (D.state disk.new).faults result }
 {
@@ -134,7 +134,7 @@ pub fn write_through<D: Disk>(disk: &mut D, at: u64, bytes: &[u8]) -> Result<(),
 /// tree `live`. The opening of one gate byte changes the live slot: a crash at any moment leaves the one tree or the other.
 /// `Failed` comes only where the disk failed; then the file has to be opened anew.
 /// Clauses: what is asked of the caller (`some`, `few`, `successor`, `staged`, `ready`); what is left on the disk (`done`); what a crash
-/// may leave (`any_moment`, `only`); what stays (`tells`); the cost (`reads`); the cause of an error (`cause`).
+/// may leave (`any_moment`, `only`); what stays (`is_known`); the cost (`reads`); the cause of an error (`cause`).
 pub fn commit<D: Disk>(
     disk: &mut D,
     dim: u8,
@@ -146,16 +146,16 @@ pub fn commit<D: Disk>(
     requires few { dim ≤ 64 }
     requires successor { IsSuccessor live.now next.now }
     requires staged { IsStagedFor dim live.now next.now staged.now }
-    requires ready { IsTrue (D.state disk.old).tells → IsReady dim live.now next.now staged.now (D.state disk.old) }
+    requires ready { IsTrue (D.state disk.old).is_known → IsReady dim live.now next.now staged.now (D.state disk.old) }
 
     // At every moment since the call began each image has what stood before, or what stands after.
-    ensures any_moment { IsTrue (D.state disk.old).tells
+    ensures any_moment { IsTrue (D.state disk.old).is_known
         → EachImage (D.state disk.old) (D.state disk.new) (IsBeforeOrAfter dim live.now next.now staged.now (D.state disk.old)) }
     // After `Ok` a crash leaves what a read gives, and that has the next tree.
     ensures only { OnOk result (LeavesOnly (D.state disk.new) (D.state disk.new).bytes) }
-    ensures done { OnOk result (IsTrue (D.state disk.old).tells → HasNext dim next.now staged.now (D.state disk.new).bytes) }
+    ensures done { OnOk result (IsTrue (D.state disk.old).is_known → HasNext dim next.now staged.now (D.state disk.new).bytes) }
 
-    ensures tells { (D.state disk.new).tells ≡ (D.state disk.old).tells }
+    ensures is_known { (D.state disk.new).is_known ≡ (D.state disk.old).is_known }
     ensures reads { (D.state disk.new).reads ≤ (D.state disk.old).reads + 1 }
     ensures cause { HasCause (D.state disk.old).faults (D.state disk.new).faults result }
 {

@@ -2,15 +2,15 @@
 ghost use Rattle.std.specs.Prelude.{◌≡◌, ◌+◌, ◌≤◌, ◌==◌, ◌&&◌, ℕ, List, false, length, IsTrue, OnOk, IfOk, IfErr};
 ghost use Rattle.disk_model.specs.Disk.{IsUnchanged};
 ghost use Rattle.node_page.specs.Bytes.{number_at};
-ghost use Rattle.node_page.specs.Heads.{IsLawfulHead, SpellsHead};
+ghost use Rattle.node_page.specs.Heads.{IsValidHead, SpellsHead};
 ghost use Rattle.node_page.specs.Slots.{SpellsSlot, slot_of};
-ghost use Rattle.node_page.specs.Opening.{page_of, IsLawfulLive, OpensTo, is_lawful_live, is_clear, live_at, slot_fault};
+ghost use Rattle.node_page.specs.Opening.{page_of, IsValidLive, OpensTo, is_valid_live, is_clear, live_at, slot_fault};
 ghost use Rattle.node_page.specs.declared.slot.Slot.{Slot};
 ghost use Rattle.shadow_root.specs.Opening.{HasOpenCause, told_as, side_of, number_of, HasSlots, LeadsTo, IsSlotFault, IsOf, HasSlotCause, HasHeadCause};
 
 use crate::OpenFault;
 use disk_model::Disk;
-use node_page::{Gate, Head, decode_head, decode_slot, is_lawful_live, live_at, read_gate};
+use node_page::{Gate, Head, decode_head, decode_slot, is_valid_live, live_at, read_gate};
 use page_store::read_page;
 use tree_shape::Live;
 
@@ -42,16 +42,16 @@ fn live_side(first: &Gate, second: &Gate) -> Result<Side, OpenFault>
 // Reads the live tree of the slot on `page`, which is open.
 fn live_in(page: &[u8; 4096], side: u8, limit: u32, size: u64) -> Result<Live, OpenFault>
     ensures spelled { IfOk result (λ live. (slot : Slot) × SpellsSlot page.now slot × (live ≡ live_at side slot)) }
-    ensures lawful { IfOk result (IsLawfulLive limit size) }
+    ensures valid { IfOk result (IsValidLive limit size) }
     ensures fault { IfErr result (λ fault. (fault ≡ OpenFault.Slot)
-        × ((is_clear page.now && is_lawful_live limit size (live_at side (slot_of page.now))) ≡ false)) }
+        × ((is_clear page.now && is_valid_live limit size (live_at side (slot_of page.now))) ≡ false)) }
 {
     let slot = match decode_slot(page) {
         Some(slot) => slot,
         None => return Err(OpenFault::Slot),
     };
     let live = live_at(side, &slot);
-    if !is_lawful_live(limit, size, &live) {
+    if !is_valid_live(limit, size, &live) {
         return Err(OpenFault::Slot);
     }
     Ok(live)
@@ -64,7 +64,7 @@ fn live_of(
     limit: u32,
     size: u64,
 ) -> Result<Live, OpenFault>
-    ensures lawful { IfOk result (IsLawfulLive limit size) }
+    ensures valid { IfOk result (IsValidLive limit size) }
     ensures side { IfOk result (λ live. live.side ≤ 1) }
     ensures ok { IfOk result (λ live. (file : List ℕ) → HasSlots first.now second.now limit size file → LeadsTo limit size live file) }
     ensures kind { IfErr result IsSlotFault }
@@ -80,9 +80,9 @@ fn live_of(
 
 // Reads the live tree of a file of `size` bytes whose head has the limit `limit`.
 fn read_live<D: Disk>(disk: &mut D, limit: u32, size: u64) -> Result<Live, OpenFault>
-    ensures lawful { IfOk result (IsLawfulLive limit size) }
+    ensures valid { IfOk result (IsValidLive limit size) }
     ensures side { IfOk result (λ live. live.side ≤ 1) }
-    ensures ok { IfOk result (λ live. IsTrue (D.state disk.old).tells → IsOf limit size (D.state disk.old).bytes →
+    ensures ok { IfOk result (λ live. IsTrue (D.state disk.old).is_known → IsOf limit size (D.state disk.old).bytes →
         LeadsTo limit size live (D.state disk.old).bytes) }
     ensures fault { IfErr result (HasSlotCause limit size (D.state disk.old) (D.state disk.new)) }
     ensures same { IsUnchanged (D.state disk.old) (D.state disk.new) }
@@ -103,8 +103,8 @@ fn read_live<D: Disk>(disk: &mut D, limit: u32, size: u64) -> Result<Live, OpenF
 
 // Reads the head of a file.
 fn read_head<D: Disk>(disk: &mut D) -> Result<Head, OpenFault>
-    ensures lawful { IfOk result IsLawfulHead }
-    ensures ok { IfOk result (λ head. IsTrue (D.state disk.old).tells → SpellsHead (page_of (D.state disk.old).bytes 0) head) }
+    ensures valid { IfOk result IsValidHead }
+    ensures ok { IfOk result (λ head. IsTrue (D.state disk.old).is_known → SpellsHead (page_of (D.state disk.old).bytes 0) head) }
     ensures fault { IfErr result (HasHeadCause (D.state disk.old) (D.state disk.new)) }
     ensures same { IsUnchanged (D.state disk.old) (D.state disk.new) }
     ensures reads { (D.state disk.new).reads ≤ (D.state disk.old).reads + 1 }
@@ -124,10 +124,10 @@ fn read_head<D: Disk>(disk: &mut D) -> Result<Head, OpenFault>
 /// Reads the head of an index file and its live tree. Returns the first fault in the order of `OpenFault`; `Disk` comes only
 /// where the disk failed. The head may be of version 1 or 2. Nothing is written, and at most three pages are read.
 pub fn open<D: Disk>(disk: &mut D) -> Result<(Head, Live), OpenFault>
-    ensures ok { IfOk result (λ opened. IsTrue (D.state disk.old).tells → OpensTo (D.state disk.old).bytes opened.0 opened.1) }
-    // The head is lawful also where the disk does not tell its bytes.
-    ensures head { IfOk result (λ opened. IsLawfulHead opened.0) }
-    ensures live { IfOk result (λ opened. (opened.1.side ≤ 1) × ((size : ℕ) × IsLawfulLive opened.0.limit size opened.1)) }
+    ensures ok { IfOk result (λ opened. IsTrue (D.state disk.old).is_known → OpensTo (D.state disk.old).bytes opened.0 opened.1) }
+    // The head is valid also where the disk does not tell its bytes.
+    ensures head { IfOk result (λ opened. IsValidHead opened.0) }
+    ensures live { IfOk result (λ opened. (opened.1.side ≤ 1) × ((size : ℕ) × IsValidLive opened.0.limit size opened.1)) }
     ensures fault { IfErr result (HasOpenCause (D.state disk.old) (D.state disk.new)) }
     ensures same { IsUnchanged (D.state disk.old) (D.state disk.new) }
     ensures reads { (D.state disk.new).reads ≤ (D.state disk.old).reads + 3 }

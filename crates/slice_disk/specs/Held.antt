@@ -6,7 +6,7 @@ use Rattle.disk_model.specs.Disk.{DiskState}
 -- A disk that holds `file`, refused some writes and syncs, and was read. Nothing is said of a crash as long as no write was refused:
 -- the bytes are the caller's. So a later state with the crash images of a state without refusals shows that no write was tried between.
 abbrev pub held : List ℕ → ℕ → ℕ → DiskState
-held file refused reads = record { tells = true; bytes = file; clock = 0; images = λ moment image. 0 < refused → image ≡ file; faults = refused; reads = reads }
+held file refused reads = record { is_known = true; bytes = file; clock = 0; images = λ moment image. 0 < refused → image ≡ file; faults = refused; reads = reads }
 
 -- ---- what a disk has to show of it
 

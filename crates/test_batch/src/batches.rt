@@ -119,7 +119,7 @@ fn outcomes_of<R: AllocGlobal + Abort + Threads + Sync, M: Metric>(
     requires few { workers ≤ 64 }
 {
     let alloc = rt.alloc();
-    let commands = read_script(alloc, script.as_bytes(), metric.words()).expect(rt, "memory");
+    let commands = read_script(alloc, script.as_bytes(), metric.dimension()).expect(rt, "memory");
     batch(rt, alloc, image, metric, live, &commands, workers).expect(rt, "memory")
 }
 

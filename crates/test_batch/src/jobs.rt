@@ -1,5 +1,5 @@
 ghost use Rattle.std.specs.Prelude.{◌≡◌, ◌≤◌};
-ghost use Rattle.node_page.specs.Heads.{IsLawfulHead};
+ghost use Rattle.node_page.specs.Heads.{IsValidHead};
 
 use crate::batches::{holds, put, put_entry, put_line, put_sixfold};
 use batch_run::jobs::laws::turns_are_one_run;
@@ -16,7 +16,7 @@ use std::thread::Threads;
 // Gives the head of an index of points of one coordinate under L1.
 #[tactic(auto, unfolding(node_page::specs::Heads::is_version, node_page::specs::Heads::is_space, node_page::specs::Heads::is_policy, node_page::specs::Heads::is_limit))]
 fn head() -> Head
-    ensures lawful { IsLawfulHead result }
+    ensures valid { IsValidHead result }
     ensures version { result.version ≡ 2 }
 {
     Head {

@@ -1,7 +1,7 @@
 ghost use Rattle.std.specs.Prelude.{◌≡◌, ◌*◌, ◌≤◌, ◌<◌, ◌^◌, All, IsTrue, length, IfOk};
 ghost use Rattle.vector_kinds.specs.Vectors.{vector_space};
-ghost use Rattle.node_page.specs.Heads.{IsLawfulHead};
-ghost use Rattle.node_page.specs.Opening.{IsLawfulLive};
+ghost use Rattle.node_page.specs.Heads.{IsValidHead};
+ghost use Rattle.node_page.specs.Opening.{IsValidLive};
 ghost use Rattle.page_store.specs.Numbers.{AreNumbers};
 
 use crate::groups::line;
@@ -24,7 +24,7 @@ use vector_kinds::L1;
 fn head_of(limit: u32) -> Head
     requires some { 1 ≤ limit }
     requires most { limit ≤ 2 ^ 24 }
-    ensures lawful { IsLawfulHead result }
+    ensures valid { IsValidHead result }
     ensures dim { result.dim ≡ 1 }
     ensures limit { result.limit ≡ limit }
 {
@@ -52,7 +52,7 @@ fn tags_of(alloc: Global, count: u32) -> Result<Vec<u64>, Memory>
 // Gives the numbers 0 to 32, each as a point.
 fn numbers(rt: &(impl AllocGlobal + Abort)) -> Rows
     ensures points { length result.points ≡ 33 }
-    ensures fit { All (λ p. IsTrue ((vector_space 2 1).fits p)) result.points }
+    ensures fit { All (λ p. IsTrue ((vector_space 2 1).is_point p)) result.points }
 {
     let (rows, _) = line(rt.alloc(), 33, 1).expect(rt, "memory");
     rows
@@ -61,7 +61,7 @@ fn numbers(rt: &(impl AllocGlobal + Abort)) -> Rows
 // Gives `count` points out of order: row i is (i + 1) * 121509 modulo 65536.
 fn scattered(alloc: Global, count: u32) -> Result<Rows, BuildFault>
     ensures points { IfOk result (λ rows. length rows.points ≡ count) }
-    ensures fit { IfOk result (λ rows. All (λ p. IsTrue ((vector_space 2 1).fits p)) rows.points) }
+    ensures fit { IfOk result (λ rows. All (λ p. IsTrue ((vector_space 2 1).is_point p)) rows.points) }
 {
     let mut rows = Rows::new(alloc, 1);
     for row in 0..count {
@@ -98,8 +98,8 @@ fn load<R: AllocGlobal + Abort + Threads + Sync>(
     requires workers { (1 ≤ workers) × (workers ≤ 64) }
     requires some { 0 < length rows.now.points }
     requires few { length rows.now.points ≤ 2 ^ 24 }
-    requires fit { All (λ p. IsTrue ((vector_space 2 1).fits p)) rows.now.points }
-    requires live { IsLawfulLive (length rows.now.points) (live.now.pages * 4096) live.now }
+    requires fit { All (λ p. IsTrue ((vector_space 2 1).is_point p)) rows.now.points }
+    requires live { IsValidLive (length rows.now.points) (live.now.pages * 4096) live.now }
     requires empty { live.now.count ≡ 0 }
     requires numbers { AreNumbers live.now.pages numbers.now }
 {

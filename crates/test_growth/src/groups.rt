@@ -16,7 +16,7 @@ pub fn line(alloc: Global, count: u32, step: u32) -> Result<(Rows, Vec<u32>), Me
     requires count { count ≤ 1024 }
     requires step { step ≤ 1 }
     ensures points { IfOk result (λ r. length r.0.points ≡ count) }
-    ensures fit { IfOk result (λ r. All (λ p. IsTrue ((vector_space 2 1).fits p)) r.0.points) }
+    ensures fit { IfOk result (λ r. All (λ p. IsTrue ((vector_space 2 1).is_point p)) r.0.points) }
     ensures set { IfOk result (λ r. length r.1.items ≡ count) }
     ensures places { IfOk result (λ r. (k : ℕ) → k < count → slice_index r.1.items k ≡ k) }
 {

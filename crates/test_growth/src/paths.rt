@@ -1,8 +1,8 @@
 ghost use Rattle.std.specs.Prelude.{◌≡◌, ◌*◌, ◌^◌, ◌≤◌, IfOk};
 ghost use Rattle.std.specs.List.{AllByRecursion};
-ghost use Rattle.node_page.specs.Heads.{IsLawfulHead};
-ghost use Rattle.node_page.specs.Nodes.{IsLawfulNode};
-ghost use Rattle.node_page.specs.Opening.{IsLawfulLive};
+ghost use Rattle.node_page.specs.Heads.{IsValidHead};
+ghost use Rattle.node_page.specs.Nodes.{IsValidNode};
+ghost use Rattle.node_page.specs.Opening.{IsValidLive};
 ghost use Rattle.page_store.specs.Reading.{IsWithin, nodes_of, reading};
 ghost use Rattle.page_store.specs.Numbers.{AreNumbers};
 ghost use Rattle.page_store.specs.Placing.{AreOutside};
@@ -28,7 +28,7 @@ struct File {
 fn head_of(limit: u32) -> Head
     requires some { 1 ≤ limit }
     requires most { limit ≤ 2 ^ 24 }
-    ensures lawful { IsLawfulHead result }
+    ensures valid { IsValidHead result }
     ensures dim { result.dim ≡ 1 }
     ensures limit { result.limit ≡ limit }
 {
@@ -46,7 +46,7 @@ fn head_of(limit: u32) -> Head
 fn write_node(rt: &impl Abort, bytes: &mut [u8], dim: u8, page: u32, node: &Node)
     requires some { 1 ≤ dim }
     requires few { dim ≤ 64 }
-    requires lawful { IsLawfulNode dim node.now }
+    requires valid { IsValidNode dim node.now }
 {
     let mut buffer = [0; 4096];
     encode_node(node, dim, &mut buffer);
@@ -59,7 +59,7 @@ fn write_node(rt: &impl Abort, bytes: &mut [u8], dim: u8, page: u32, node: &Node
 fn write_staged(rt: &impl Abort, bytes: &mut [u8], dim: u8, next: &Live, staged: &Staged)
     requires some { 1 ≤ dim }
     requires few { dim ≤ 64 }
-    requires lawful { AllByRecursion (λ s. IsWithin next.now.pages s.page × IsLawfulNode dim s.node) staged.now }
+    requires valid { AllByRecursion (λ s. IsWithin next.now.pages s.page × IsValidNode dim s.node) staged.now }
 {
     for i in 0..staged.len() {
         let page = staged.page_at(i);
@@ -76,18 +76,18 @@ fn place_at(
     numbers: &[u32],
     x: u32,
 ) -> Result<Placed, PlaceFault>
-    requires head { IsLawfulHead head.now }
+    requires head { IsValidHead head.now }
     requires dim { head.now.dim ≡ 1 }
-    requires live { IsLawfulLive head.now.limit (file.now.live.pages * 4096) file.now.live }
+    requires live { IsValidLive head.now.limit (file.now.live.pages * 4096) file.now.live }
     requires numbers { AreNumbers file.now.live.pages numbers.now }
     requires outside { AreOutside (nodes_of (reading head.now.dim file.now.live.pages file.now.bytes.items)) file.now.live numbers.now }
     ensures nodes { IfOk result (λ placed.
-        AllByRecursion (λ s. IsWithin placed.next.pages s.page × IsLawfulNode head.now.dim s.node) placed.staged) }
-    ensures lawful { IfOk result (λ placed. IsLawfulLive head.now.limit (placed.next.pages * 4096) placed.next) }
+        AllByRecursion (λ s. IsWithin placed.next.pages s.page × IsValidNode head.now.dim s.node) placed.staged) }
+    ensures valid { IfOk result (λ placed. IsValidLive head.now.limit (placed.next.pages * 4096) placed.next) }
 {
     let mut ruler = Meter::new(L1::new(head.dim));
     let point = [x];
-    assert!(rt; ruler.fits(&point));
+    assert!(rt; ruler.is_point(&point));
     let mut pages = ImagePages::new(&file.bytes, head.dim, file.live.pages);
     let placed = place(
         rt.alloc(),
@@ -106,12 +106,12 @@ fn place_at(
 
 // Inserts an object at `x` into the file.
 fn insert(rt: &(impl AllocGlobal + Abort), file: &mut File, head: &Head, numbers: &[u32], x: u32)
-    requires head { IsLawfulHead head.now }
+    requires head { IsValidHead head.now }
     requires dim { head.now.dim ≡ 1 }
-    requires live { IsLawfulLive head.now.limit (file.old.live.pages * 4096) file.old.live }
+    requires live { IsValidLive head.now.limit (file.old.live.pages * 4096) file.old.live }
     requires numbers { AreNumbers file.old.live.pages numbers.now }
     requires outside { AreOutside (nodes_of (reading head.now.dim file.old.live.pages file.old.bytes.items)) file.old.live numbers.now }
-    ensures { IsLawfulLive head.now.limit (file.new.live.pages * 4096) file.new.live }
+    ensures { IsValidLive head.now.limit (file.new.live.pages * 4096) file.new.live }
 {
     let placed = place_at(rt, file, head, numbers, x).expect(rt, "placed");
     write_staged(rt, &mut file.bytes, head.dim, &placed.next, &placed.staged);
@@ -120,10 +120,10 @@ fn insert(rt: &(impl AllocGlobal + Abort), file: &mut File, head: &Head, numbers
 
 // Inserts an object at `x` into a tree of one leaf on page 3 or 4, and gives the new node the other one.
 fn insert_low(rt: &(impl AllocGlobal + Abort), file: &mut File, head: &Head, x: u32)
-    requires head { IsLawfulHead head.now }
+    requires head { IsValidHead head.now }
     requires dim { head.now.dim ≡ 1 }
-    requires live { IsLawfulLive head.now.limit (file.old.live.pages * 4096) file.old.live }
-    ensures { IsLawfulLive head.now.limit (file.new.live.pages * 4096) file.new.live }
+    requires live { IsValidLive head.now.limit (file.old.live.pages * 4096) file.old.live }
+    ensures { IsValidLive head.now.limit (file.new.live.pages * 4096) file.new.live }
 {
     assert!(rt; file.live.height == 0);
     if file.live.pages == 4 {

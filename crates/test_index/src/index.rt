@@ -137,7 +137,7 @@ fn ask_range<D: Disk, M: Metric>(
     requires { StandsOn view.old (D.state disk.old) }
     ensures { StandsOn view.new (D.state disk.new) }
 {
-    assert!(rt; view.metric().fits(&[q]));
+    assert!(rt; view.metric().is_point(&[q]));
     view.range(rt.alloc(), disk, &[q], r)
 }
 
@@ -178,7 +178,7 @@ fn ask_nearest<D: Disk, M: Metric>(
     requires some { 1 ≤ k }
     ensures { StandsOn view.new (D.state disk.new) }
 {
-    assert!(rt; view.metric().fits(&[q]));
+    assert!(rt; view.metric().is_point(&[q]));
     view.nearest(rt.alloc(), disk, &[q], k)
 }
 

@@ -20,11 +20,11 @@ use vector_kinds::L1;
 // Gives the numbers below `count`, each as a point.
 fn numbers<M: Metric>(rt: &(impl AllocGlobal + Abort), metric: &M, count: u32) -> Rows
     ensures points { length result.points ≡ count }
-    ensures fit { All (λ p. IsTrue ((M.space metric.now).fits p)) result.points }
+    ensures fit { All (λ p. IsTrue ((M.space metric.now).is_point p)) result.points }
 {
     let mut rows = Rows::new(rt.alloc(), 1);
     for x in 0..count {
-        assert!(rt; metric.fits(&[x]));
+        assert!(rt; metric.is_point(&[x]));
         rows.push(&[x]).expect(rt, "memory");
     }
     rows
@@ -308,7 +308,7 @@ fn insert_tagged<D: Disk>(
     requires { MayGoOn index.old (D.state disk.old) }
     ensures { MayGoOn index.new (D.state disk.new) }
 {
-    assert!(rt; index.metric().fits(&[34]));
+    assert!(rt; index.metric().is_point(&[34]));
     index.insert_tagged(rt.alloc(), disk, &[34], 700)
 }
 
@@ -320,7 +320,7 @@ fn tags_near<D: Disk>(
 ) -> Vec<u64>
     requires { MayGoOn index.old (D.state disk.old) }
 {
-    assert!(rt; index.metric().fits(&[32]));
+    assert!(rt; index.metric().is_point(&[32]));
     let found = index.range(rt.alloc(), disk, &[32], 2).expect(rt, "found");
     index.tags(rt.alloc(), disk, &found).expect(rt, "tags")
 }

@@ -1,6 +1,6 @@
 // Shares what tests of writing calls need: disks that stop, indexes on them, and what a crash leaves of them.
 ghost use Rattle.std.specs.Prelude.{◌≡◌, ◌≤◌, ◌^◌, IfOk, OnOk};
-ghost use Rattle.node_page.specs.Heads.{IsLawfulHead};
+ghost use Rattle.node_page.specs.Heads.{IsValidHead};
 ghost use Rattle.index_core.specs.Index.{MayGoOn};
 
 use crate::index::{file_of, has_first};
@@ -115,7 +115,7 @@ fn middle(bytes: &[u8]) -> Option<&[u8]> {
 pub(crate) fn head_of(limit: u32) -> Head
     requires some { 1 ≤ limit }
     requires most { limit ≤ 2 ^ 24 }
-    ensures lawful { IsLawfulHead result }
+    ensures valid { IsValidHead result }
     ensures version { result.version ≡ 2 }
 {
     Head {
@@ -194,7 +194,7 @@ pub(crate) fn insert<D: Disk, M: Metric>(
     requires { MayGoOn index.old (D.state disk.old) }
     ensures { MayGoOn index.new (D.state disk.new) }
 {
-    assert!(rt; index.metric().fits(&[x]));
+    assert!(rt; index.metric().is_point(&[x]));
     index.insert(rt.alloc(), disk, &[x])
 }
 
@@ -223,7 +223,7 @@ pub(crate) fn index_range<D: Disk, M: Metric>(
     requires { MayGoOn index.old (D.state disk.old) }
     ensures { MayGoOn index.new (D.state disk.new) }
 {
-    assert!(rt; index.metric().fits(&[0]));
+    assert!(rt; index.metric().is_point(&[0]));
     index.range(rt.alloc(), disk, &[0], 2)
 }
 
@@ -238,7 +238,7 @@ pub(crate) fn index_nearest<D: Disk, M: Metric>(
     requires some { 1 ≤ k }
     ensures { MayGoOn index.new (D.state disk.new) }
 {
-    assert!(rt; index.metric().fits(&[0]));
+    assert!(rt; index.metric().is_point(&[0]));
     index.nearest(rt.alloc(), disk, &[0], k)
 }
 

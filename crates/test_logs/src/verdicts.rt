@@ -1,4 +1,4 @@
-ghost use Rattle.log_model.specs.Grammar.{IsLawfulLog, IsLawfulJoinLog};
+ghost use Rattle.log_model.specs.Grammar.{IsValidLog, IsValidJoinLog};
 
 use crate::models::holds;
 use log_model::{JoinLog, JoinRecord, Log, Mark, Record};
@@ -40,7 +40,7 @@ fn file(rt: &(impl AllocGlobal + Abort), level: u8) -> Vec<u8> {
 
 // Gives the log of the query for all objects within 7 of (0, 0), with one record and one answer.
 fn log(rt: &(impl AllocGlobal + Abort), generation: u64, page: u32, mark: Mark, dist: u64) -> Log
-    ensures { IsLawfulLog result }
+    ensures { IsValidLog result }
 {
     let alloc = rt.alloc();
     let marks = Listed::new(vec![in alloc; mark].expect(rt, "memory"));
@@ -58,7 +58,7 @@ fn log(rt: &(impl AllocGlobal + Abort), generation: u64, page: u32, mark: Mark, 
 
 // Verifies a log on a file, and counts the pages asked for and the distances computed.
 fn verdict_on(alloc: Global, bytes: &[u8], log: &Log) -> (Result<Accepted, Verdict>, u64, u64)
-    requires { IsLawfulLog log.now }
+    requires { IsValidLog log.now }
 {
     let mut pages = ImagePages::new(bytes, 2, 5);
     let mut ruler = Meter::new(L1::new(2));
@@ -115,7 +115,7 @@ fn a_page_that_holds_no_node_is_named(rt: HostRuntime) {
 // Gives the log of the join of the small index with itself within 0. The left root is opened first, and then the right
 // root against the object.
 fn join_log(rt: &(impl AllocGlobal + Abort), right: (u64, u32), mark: Mark) -> JoinLog
-    ensures { IsLawfulJoinLog result }
+    ensures { IsValidJoinLog result }
 {
     let alloc = rt.alloc();
     let answer = Pair {
@@ -144,7 +144,7 @@ fn join_log(rt: &(impl AllocGlobal + Abort), right: (u64, u32), mark: Mark) -> J
 
 // Verifies the log of a join of a file with itself.
 fn join_verdict(alloc: Global, bytes: &[u8], log: &JoinLog) -> Result<Accepted, JoinVerdict>
-    requires { IsLawfulJoinLog log.now }
+    requires { IsValidJoinLog log.now }
 {
     let mut left = ImagePages::new(bytes, 2, 5);
     let mut right = ImagePages::new(bytes, 2, 5);

@@ -11,7 +11,7 @@ struct Row<'a> {
 }
 
 fn distance<M: Metric>(metric: M, a: &[u32], b: &[u32]) -> Option<u64> {
-    if metric.fits(a) && metric.fits(b) && metric.words() == a.len() {
+    if metric.is_point(a) && metric.is_point(b) && metric.dimension() == a.len() {
         Some(metric.dist(a, b))
     } else {
         None
@@ -19,7 +19,7 @@ fn distance<M: Metric>(metric: M, a: &[u32], b: &[u32]) -> Option<u64> {
 }
 
 fn twice<R: Ruler>(ruler: &mut R, a: &[u32], b: &[u32]) -> Option<(u64, u64)> {
-    if ruler.fits(a) && ruler.fits(b) {
+    if ruler.is_point(a) && ruler.is_point(b) {
         Some((ruler.dist(a, b), ruler.dist(b, a)))
     } else {
         None

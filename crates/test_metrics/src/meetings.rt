@@ -16,8 +16,8 @@ fn distances_are_those_of_l1(rt: HostRuntime) {
         second: &[3, 4],
         seen: &seen,
     };
-    assert!(rt; metric.words() == 2);
-    assert!(rt; (metric.fits(&[9, 9]), metric.fits(&[9])) == (true, false));
+    assert!(rt; metric.dimension() == 2);
+    assert!(rt; (metric.is_point(&[9, 9]), metric.is_point(&[9])) == (true, false));
     assert!(rt; distance(metric, &[1, 2], &[3, 4]) == 4);
     assert!(rt; distance(metric, &[0, 9], &[5, 7]) == 7);
     assert!(rt; !seen.met());

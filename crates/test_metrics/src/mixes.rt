@@ -5,7 +5,7 @@ use vector_kinds::{Hamming, L1, SpaceFault};
 
 /// The distance of two points, None where one of them doesn't fit.
 fn distance<M: Metric>(metric: M, a: &[u32], b: &[u32]) -> Option<u64> {
-    if metric.fits(a) && metric.fits(b) && metric.words() == a.len() {
+    if metric.is_point(a) && metric.is_point(b) && metric.dimension() == a.len() {
         Some(metric.dist(a, b))
     } else {
         None

@@ -14,15 +14,15 @@ use Rattle.page_store.specs.Files.{nodes_in}
 use Rattle.page_store.specs.Reached.{IsReached}
 use Rattle.page_store.specs.Reached.IsReached.{at_root, by_child}
 use Rattle.shadow_root.specs.Commit.{IsStagedAs, IsReady, IsStagedFor}
-use Rattle.node_page.specs.Nodes.{IsLawfulNode}
+use Rattle.node_page.specs.Nodes.{IsValidNode}
 use Rattle.page_store.specs.Reading.{IsWithin}
 use Rattle.shadow_root.specs.Making.{first_live, IsMade}
 
 -- some space of this dimension
 space_of : ℕ → Space
-space_of dim = record { words = dim; fits = λ p. false; dist = λ p q. 0 }
+space_of dim = record { dimension = dim; is_point = λ p. false; dist = λ p q. 0 }
 
-words_of : (dim : ℕ) → (space_of dim).words ≡ dim
+words_of : (dim : ℕ) → (space_of dim).dimension ≡ dim
 unfolding space_of
 words_of dim = refl
 
@@ -58,9 +58,9 @@ one_staged s t zero is = cc
 one_staged s t (suc k) is = absurd cc
 
 -- one new node is all that a commit of one more page needs
-pub staged_one : (dim : ℕ) (live next : Live) (s : StagedNode) → IsWithin next.pages s.page → IsLawfulNode dim s.node → live.pages ≡ s.page → next.pages ≡ s.page + 1 → IsStagedFor dim live next (s ∷ [])
-staged_one dim live next s within lawful first last = record {
+pub staged_one : (dim : ℕ) (live next : Live) (s : StagedNode) → IsWithin next.pages s.page → IsValidNode dim s.node → live.pages ≡ s.page → next.pages ≡ s.page + 1 → IsStagedFor dim live next (s ∷ [])
+staged_one dim live next s within valid first last = record {
   within = λ k t stands. subst (λ (u : StagedNode). IsWithin next.pages u.page) (sym (one_staged s t k stands)) within;
-  lawful = λ k t stands. subst (λ (u : StagedNode). IsLawfulNode dim u.node) (sym (one_staged s t k stands)) lawful;
+  valid = λ k t stands. subst (λ (u : StagedNode). IsValidNode dim u.node) (sym (one_staged s t k stands)) valid;
   every = λ p from to. (0, s, refl, omega arith);
 }

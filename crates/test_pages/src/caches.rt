@@ -213,7 +213,7 @@ fn look<D: Disk>(
 // hold what they held.
 fn forget_each(kept: &mut Kept, written: &[u32])
     ensures { (old new : Shelf) → GrowsTo old new → Agrees kept.old old
-        → (IsTrue new.tells → (page : ℕ) → ¬ Contains written.now page → new.read page ≡ old.read page) → Agrees kept.new new }
+        → (IsTrue new.is_known → (page : ℕ) → ¬ Contains written.now page → new.read page ≡ old.read page) → Agrees kept.new new }
 {
     laws::agreement_lasts();
     laws::forgetting_keeps_agreement();

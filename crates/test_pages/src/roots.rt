@@ -1,5 +1,5 @@
 ghost use Rattle.std.specs.Prelude.{◌≡◌, IsTrue, IfOk, OnOk};
-ghost use Rattle.node_page.specs.Nodes.{IsLawfulNode};
+ghost use Rattle.node_page.specs.Nodes.{IsValidNode};
 ghost use Rattle.disk_model.specs.Disk.{LeavesOnly};
 ghost use Rattle.disk_model.specs.FileCounts.{state_of, told_nothing};
 ghost use Rattle.shadow_root.specs.Making.{IsMade};
@@ -61,16 +61,16 @@ fn empty_disk(rt: &(impl AllocGlobal + Abort), stop: Option<u64>) -> MemoryDisk 
 
 // Makes a new file.
 fn make<D: Disk>(disk: &mut D) -> Result<Live, CreateFault>
-    ensures made { OnOk result (IsTrue (D.state disk.old).tells → IsMade HEAD (D.state disk.new).bytes) }
+    ensures made { OnOk result (IsTrue (D.state disk.old).is_known → IsMade HEAD (D.state disk.new).bytes) }
     ensures only { OnOk result (LeavesOnly (D.state disk.new) (D.state disk.new).bytes) }
-    ensures tells { (D.state disk.new).tells ≡ (D.state disk.old).tells }
+    ensures is_known { (D.state disk.new).is_known ≡ (D.state disk.old).is_known }
 {
     create(disk, &HEAD)
 }
 
 // Makes a leaf with one object at (`x`, 4).
 fn leaf(alloc: Global, x: u32) -> Result<Node, AllocError>
-    ensures { IfOk result (IsLawfulNode 2) }
+    ensures { IfOk result (IsValidNode 2) }
 {
     let mut entries = Vec::new(alloc);
     entries.push(LeafEntry {
@@ -153,7 +153,7 @@ fn a_file_with_a_fault_does_not_open(rt: HostRuntime) {
 
 // Commits one object to a new file.
 fn add_one<D: Disk>(alloc: Global, disk: &mut D) -> Result<Result<(), Failed>, AllocError>
-    requires made { IsTrue (D.state disk.old).tells → IsMade HEAD (D.state disk.old).bytes }
+    requires made { IsTrue (D.state disk.old).is_known → IsMade HEAD (D.state disk.old).bytes }
     requires only { LeavesOnly (D.state disk.old) (D.state disk.old).bytes }
 {
     let mut staged = Staged::new(alloc);

@@ -1,5 +1,5 @@
 ghost use Rattle.std.specs.Prelude.{◌≡◌, ◌<◌, All};
-ghost use Rattle.log_model.specs.Grammar.{IsLawfulLog};
+ghost use Rattle.log_model.specs.Grammar.{IsValidLog};
 
 use disk_model::{Disk, MemoryDisk};
 use log_model::{Log, Mark, Record};
@@ -68,7 +68,7 @@ const HIT: Hit = Hit { id: 0, dist: 7 };
 
 // Gives the log of the query for all objects within 7 of (0, 0) on that file.
 pub(crate) fn small_log(rt: &(impl AllocGlobal + Abort)) -> Log
-    ensures lawful { IsLawfulLog result }
+    ensures valid { IsValidLog result }
     ensures within { All (λ r. r.page < 5) result.records }
 {
     let alloc = rt.alloc();

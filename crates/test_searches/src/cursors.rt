@@ -38,7 +38,7 @@ fn take(
 ) -> (Result<Stepped, PageFault>, u64) {
     let mut pages = ImagePages::new(bytes, 1, 6);
     let mut ruler = Meter::new(L1::new(1));
-    assert!(rt; ruler.fits(cursor.point()));
+    assert!(rt; ruler.is_point(cursor.point()));
     assert!(rt; n >= 1);
     let stepped = cursor.step(rt.alloc(), &mut pages, &mut ruler, n);
     (stepped, pages.asked)

@@ -307,9 +307,9 @@ fn a_first_walk_is_refused_where_it_meets_a_fault(rt: HostRuntime) {
 }
 
 // Checks the words of a fault.
-fn check_words(rt: &(impl AllocGlobal + Abort), fault: JoinFault, words: &str) {
+fn check_words(rt: &(impl AllocGlobal + Abort), fault: JoinFault, dimension: &str) {
     let text = format!(in rt.alloc(); "{}", fault).expect(rt, "memory");
-    holds(rt, text.as_str() == words);
+    holds(rt, text.as_str() == dimension);
 }
 
 #[test]

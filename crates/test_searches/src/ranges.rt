@@ -18,7 +18,7 @@ fn ask(
 ) -> (Result<Found, PageFault>, u64, u64) {
     let mut pages = ImagePages::new(bytes, 1, live.pages.min(100));
     let mut ruler = Meter::new(L1::new(1));
-    assert!(rt; metric_laws::Ruler::fits(&ruler, &[q]));
+    assert!(rt; metric_laws::Ruler::is_point(&ruler, &[q]));
     assert!(rt; live.pages <= 100);
     let found = range(rt.alloc(), &mut pages, &mut ruler, live, &[q], r);
     (found, pages.asked, ruler.used())

@@ -1,5 +1,5 @@
 ghost use Rattle.std.specs.Prelude.{◌≡◌, ◌≤◌, ◌^◌, false, None, IfOk};
-ghost use Rattle.node_page.specs.Heads.{IsLawfulHead};
+ghost use Rattle.node_page.specs.Heads.{IsValidHead};
 ghost use Rattle.index_core.specs.Index.{MayGoOn};
 
 use bulk_load::Alone;
@@ -45,7 +45,7 @@ impl Watched for MemoryDisk {
 // Gives a head of at most a thousand points of one coordinate under L1.
 #[tactic(auto, unfolding(node_page::specs::Heads::is_version, node_page::specs::Heads::is_space, node_page::specs::Heads::is_policy, node_page::specs::Heads::is_limit))]
 fn head() -> Head
-    ensures lawful { IsLawfulHead result }
+    ensures valid { IsValidHead result }
     ensures version { result.version ≡ 2 }
 {
     Head {
@@ -135,9 +135,9 @@ fn run_on<R: AllocGlobal + Abort, M: Metric, D: Disk, K: Sink, T: Sink>(
     ensures going { result.stopped ≡ None → index.new.stopped ≡ false }
 {
     let alloc = rt.alloc();
-    let words = index.metric().words();
-    assert!(rt; words == 1 && script.len() < 1_000);
-    let commands = read_script(alloc, script, words).expect(rt, "memory");
+    let dimension = index.metric().dimension();
+    assert!(rt; dimension == 1 && script.len() < 1_000);
+    let commands = read_script(alloc, script, dimension).expect(rt, "memory");
     session(&Alone, alloc, index, disk, &commands, show, out, log_out)
 }
 

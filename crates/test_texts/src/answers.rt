@@ -1,5 +1,5 @@
 ghost use Rattle.std.specs.Prelude.{MatchOption};
-ghost use Rattle.log_model.specs.Grammar.{IsLawfulLog};
+ghost use Rattle.log_model.specs.Grammar.{IsValidLog};
 
 use answer_texts::{Texts, texts_of};
 use log_model::Log;
@@ -19,7 +19,7 @@ const FRAME: [u8; 47] = [
 
 // Gives the log of that frame, or none.
 fn log_of(alloc: Global, logged: bool) -> Option<Log>
-    ensures { MatchOption result (Unit {0}) IsLawfulLog }
+    ensures { MatchOption result (Unit {0}) IsValidLog }
 {
     if !logged {
         return None;

@@ -11,7 +11,7 @@ use vector_kinds::L1;
 // Makes three numbers into points of one coordinate.
 fn rows_of(alloc: Global, numbers: [u32; 3]) -> Result<Rows, Memory>
     ensures points { IfOk result (λ rows. length rows.points ≡ 3) }
-    ensures fit { IfOk result (λ rows. All (λ p. IsTrue ((vector_space 2 1).fits p)) rows.points) }
+    ensures fit { IfOk result (λ rows. All (λ p. IsTrue ((vector_space 2 1).is_point p)) rows.points) }
 {
     let [a, b, c] = numbers;
     let mut rows = Rows::new(alloc, 1);

@@ -19,36 +19,36 @@ use Rattle.tree_audit.specs.Visits.{leaf_told, IsEntryFault, IsOpenFault}
 
 -- ---- faults that go up
 
-pub walk_same : (old new : Shelf) (told told2 : Result Seen AuditFault) (v : AuditFault) → (IsTrue old.tells → told ≡ told2) → IsWalkFault old new told v → IsWalkFault old new told2 v
+pub walk_same : (old new : Shelf) (told told2 : Result Seen AuditFault) (v : AuditFault) → (IsTrue old.is_known → told ≡ told2) → IsWalkFault old new told v → IsWalkFault old new told2 v
 walk_same old new told told2 Memory same fault = tt
 walk_same old new told told2 (Page Disk) same fault = fault
 walk_same old new told told2 (Page NoRoom) same fault = fault
 walk_same old new told told2 (Page (Repeats p)) same fault = fault
 walk_same old new told told2 (Page (Level p)) same fault = fault
-walk_same old new told told2 (Page (Bad p f)) same fault = λ tells. sym (same tells) ∙ fault tells
-walk_same old new told told2 (Page (Outside p)) same fault = λ tells. sym (same tells) ∙ fault tells
-walk_same old new told told2 (Fill p) same fault = λ tells. sym (same tells) ∙ fault tells
-walk_same old new told told2 (Twice p) same fault = λ tells. sym (same tells) ∙ fault tells
-walk_same old new told told2 (Unfit p i) same fault = λ tells. sym (same tells) ∙ fault tells
-walk_same old new told told2 (ParentDistance p i) same fault = λ tells. sym (same tells) ∙ fault tells
-walk_same old new told told2 (Radius p i o) same fault = λ tells. sym (same tells) ∙ fault tells
-walk_same old new told told2 (Id i) same fault = λ tells. sym (same tells) ∙ fault tells
-walk_same old new told told2 (Count a b) same fault = λ tells. sym (same tells) ∙ fault tells
+walk_same old new told told2 (Page (Bad p f)) same fault = λ is_known. sym (same is_known) ∙ fault is_known
+walk_same old new told told2 (Page (Outside p)) same fault = λ is_known. sym (same is_known) ∙ fault is_known
+walk_same old new told told2 (Fill p) same fault = λ is_known. sym (same is_known) ∙ fault is_known
+walk_same old new told told2 (Twice p) same fault = λ is_known. sym (same is_known) ∙ fault is_known
+walk_same old new told told2 (Unfit p i) same fault = λ is_known. sym (same is_known) ∙ fault is_known
+walk_same old new told told2 (ParentDistance p i) same fault = λ is_known. sym (same is_known) ∙ fault is_known
+walk_same old new told told2 (Radius p i o) same fault = λ is_known. sym (same is_known) ∙ fault is_known
+walk_same old new told told2 (Id i) same fault = λ is_known. sym (same is_known) ∙ fault is_known
+walk_same old new told told2 (Count a b) same fault = λ is_known. sym (same is_known) ∙ fault is_known
 
 -- a fault of an entry is one of the walk
 pub of_entry : (old new : Shelf) (told : Result Seen AuditFault) (v : AuditFault) → IsEntryFault told v → IsWalkFault old new told v
 of_entry old new told Memory fault = tt
 of_entry old new told (Page f) fault = absurd fault
-of_entry old new told (Fill p) fault = λ tells. fault
-of_entry old new told (Twice p) fault = λ tells. fault
-of_entry old new told (Unfit p i) fault = λ tells. fault
-of_entry old new told (ParentDistance p i) fault = λ tells. fault
-of_entry old new told (Radius p i o) fault = λ tells. fault
-of_entry old new told (Id i) fault = λ tells. fault
-of_entry old new told (Count a b) fault = λ tells. fault
+of_entry old new told (Fill p) fault = λ is_known. fault
+of_entry old new told (Twice p) fault = λ is_known. fault
+of_entry old new told (Unfit p i) fault = λ is_known. fault
+of_entry old new told (ParentDistance p i) fault = λ is_known. fault
+of_entry old new told (Radius p i o) fault = λ is_known. fault
+of_entry old new told (Id i) fault = λ is_known. fault
+of_entry old new told (Count a b) fault = λ is_known. fault
 
 -- a fault of a later stretch of the walk, where `up` passes on what is told
-pub of_child : (old mid new : Shelf) (told : Result Seen AuditFault) (up : Result Seen AuditFault → Result Seen AuditFault) (v : AuditFault) → mid.tells ≡ old.tells → old.faults ≤ mid.faults
+pub of_child : (old mid new : Shelf) (told : Result Seen AuditFault) (up : Result Seen AuditFault → Result Seen AuditFault) (v : AuditFault) → mid.is_known ≡ old.is_known → old.faults ≤ mid.faults
     → ((w : AuditFault) → up (Err w) ≡ Err w) → IsWalkFault mid new told v → IsWalkFault old new (up told) v
 of_child old mid new told up Memory same later goes fault = tt
 of_child old mid new told up (Page Disk) same later goes fault = rose old.faults mid.faults new.faults later fault
@@ -58,15 +58,15 @@ of_child old mid new told up (Page Disk) same later goes fault = rose old.faults
 of_child old mid new told up (Page NoRoom) same later goes fault = fault
 of_child old mid new told up (Page (Repeats p)) same later goes fault = fault
 of_child old mid new told up (Page (Level p)) same later goes fault = fault
-of_child old mid new told up (Page (Bad p f)) same later goes fault = λ tells. ap up (fault (subst (λ (b : Bool). IsTrue b) (sym same) tells)) ∙ goes (Page (Bad p f))
-of_child old mid new told up (Page (Outside p)) same later goes fault = λ tells. ap up (fault (subst (λ (b : Bool). IsTrue b) (sym same) tells)) ∙ goes (Page (Outside p))
-of_child old mid new told up (Fill p) same later goes fault = λ tells. ap up (fault (subst (λ (b : Bool). IsTrue b) (sym same) tells)) ∙ goes (Fill p)
-of_child old mid new told up (Twice p) same later goes fault = λ tells. ap up (fault (subst (λ (b : Bool). IsTrue b) (sym same) tells)) ∙ goes (Twice p)
-of_child old mid new told up (Unfit p i) same later goes fault = λ tells. ap up (fault (subst (λ (b : Bool). IsTrue b) (sym same) tells)) ∙ goes (Unfit p i)
-of_child old mid new told up (ParentDistance p i) same later goes fault = λ tells. ap up (fault (subst (λ (b : Bool). IsTrue b) (sym same) tells)) ∙ goes (ParentDistance p i)
-of_child old mid new told up (Radius p i o) same later goes fault = λ tells. ap up (fault (subst (λ (b : Bool). IsTrue b) (sym same) tells)) ∙ goes (Radius p i o)
-of_child old mid new told up (Id i) same later goes fault = λ tells. ap up (fault (subst (λ (b : Bool). IsTrue b) (sym same) tells)) ∙ goes (Id i)
-of_child old mid new told up (Count a b) same later goes fault = λ tells. ap up (fault (subst (λ (b : Bool). IsTrue b) (sym same) tells)) ∙ goes (Count a b)
+of_child old mid new told up (Page (Bad p f)) same later goes fault = λ is_known. ap up (fault (subst (λ (b : Bool). IsTrue b) (sym same) is_known)) ∙ goes (Page (Bad p f))
+of_child old mid new told up (Page (Outside p)) same later goes fault = λ is_known. ap up (fault (subst (λ (b : Bool). IsTrue b) (sym same) is_known)) ∙ goes (Page (Outside p))
+of_child old mid new told up (Fill p) same later goes fault = λ is_known. ap up (fault (subst (λ (b : Bool). IsTrue b) (sym same) is_known)) ∙ goes (Fill p)
+of_child old mid new told up (Twice p) same later goes fault = λ is_known. ap up (fault (subst (λ (b : Bool). IsTrue b) (sym same) is_known)) ∙ goes (Twice p)
+of_child old mid new told up (Unfit p i) same later goes fault = λ is_known. ap up (fault (subst (λ (b : Bool). IsTrue b) (sym same) is_known)) ∙ goes (Unfit p i)
+of_child old mid new told up (ParentDistance p i) same later goes fault = λ is_known. ap up (fault (subst (λ (b : Bool). IsTrue b) (sym same) is_known)) ∙ goes (ParentDistance p i)
+of_child old mid new told up (Radius p i o) same later goes fault = λ is_known. ap up (fault (subst (λ (b : Bool). IsTrue b) (sym same) is_known)) ∙ goes (Radius p i o)
+of_child old mid new told up (Id i) same later goes fault = λ is_known. ap up (fault (subst (λ (b : Bool). IsTrue b) (sym same) is_known)) ∙ goes (Id i)
+of_child old mid new told up (Count a b) same later goes fault = λ is_known. ap up (fault (subst (λ (b : Bool). IsTrue b) (sym same) is_known)) ∙ goes (Count a b)
 
 -- ---- arrivals
 
@@ -108,8 +108,8 @@ of_open old new s count h least path page seen (Page Disk) fresh fault = fault
 of_open old new s count h least path page seen (Page NoRoom) fresh fault = absurd fault
 of_open old new s count h least path page seen (Page (Repeats p)) fresh fault = absurd fault
 of_open old new s count h least path page seen (Page (Level p)) fresh fault = absurd fault
-of_open old new s count h least path page seen (Page (Bad p f)) fresh fault = λ tells. unread s old.read count h least path page seen (Bad p f) fresh (fault tells)
-of_open old new s count h least path page seen (Page (Outside p)) fresh fault = λ tells. unread s old.read count h least path page seen (Outside p) fresh (fault tells)
+of_open old new s count h least path page seen (Page (Bad p f)) fresh fault = λ is_known. unread s old.read count h least path page seen (Bad p f) fresh (fault is_known)
+of_open old new s count h least path page seen (Page (Outside p)) fresh fault = λ is_known. unread s old.read count h least path page seen (Outside p) fresh (fault is_known)
 of_open old new s count h least path page seen (Fill p) fresh fault = absurd fault
 of_open old new s count h least path page seen (Twice p) fresh fault = absurd fault
 of_open old new s count h least path page seen (Unfit p i) fresh fault = absurd fault
@@ -146,7 +146,7 @@ told_if_err (Ok x) told told2 same fault = tt
 told_if_err (Err v) told told2 same fault = λ ps. subst (λ (t : Result Seen AuditFault). IsEntryFault t v) (same ps) (fault ps)
 
 -- an entry's fault, as one of the walk that tells the same
-pub walk_if_err : {T : Type 0} (r : Result T AuditFault) (old new : Shelf) (told : List ℕ → Result Seen AuditFault) (told2 : Result Seen AuditFault) (met : List ℕ) → (IsTrue old.tells → told met ≡ told2)
+pub walk_if_err : {T : Type 0} (r : Result T AuditFault) (old new : Shelf) (told : List ℕ → Result Seen AuditFault) (told2 : Result Seen AuditFault) (met : List ℕ) → (IsTrue old.is_known → told met ≡ told2)
     → IfErr r (λ v. (ps : List ℕ) → IsEntryFault (told ps) v) → IfErr r (IsWalkFault old new told2)
 walk_if_err (Ok x) old new told told2 met same fault = tt
 walk_if_err (Err v) old new told told2 met same fault = walk_same old new (told met) told2 v same (of_entry old new (told met) v (fault met))

@@ -15,12 +15,12 @@ pub told_same : (told told2 : Result Seen AuditFault) (v : AuditFault) → told 
 told_same told told2 v same fault = subst (λ (t : Result Seen AuditFault). IsEntryFault t v) same fault
 
 -- an object that fits and stores its distance
-pub object_inside : (s : Space) (count : ℕ) (above : Option (List ℕ)) (path : List Step) (page i : ℕ) (o : LeafEntry) (seen : Seen) → s.fits o.point ≡ true → o.parent ≡ parent_distance s above o.point
+pub object_inside : (s : Space) (count : ℕ) (above : Option (List ℕ)) (path : List Step) (page i : ℕ) (o : LeafEntry) (seen : Seen) → s.is_point o.point ≡ true → o.parent ≡ parent_distance s above o.point
     → if_inside (first_outside s path o.point) o.id
     (if nat_lt o.id count && (times o.id seen.ids == 0) then Ok (record { pages = seen.pages; ids = seen.ids ++ o.id ∷ [] }) else Err (Id o.id))
     ≡ check_object s count above path page i o seen
-object_inside s count above path page i o seen fits stores =
-    let same : (o.parent == parent_distance s above o.point) ≡ true = itself o.parent (parent_distance s above o.point) stores in rw (fits, same) refl
+object_inside s count above path page i o seen is_point stores =
+    let same : (o.parent == parent_distance s above o.point) ≡ true = itself o.parent (parent_distance s above o.point) stores in rw (is_point, same) refl
   where
     itself : (m n : ℕ) → m ≡ n → (m == n) ≡ true
     itself m n is = grind (arith, nat_tests)

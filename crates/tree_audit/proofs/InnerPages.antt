@@ -22,11 +22,11 @@ less m = omega arith
 pub inner_page : (s : Space) (read : Read) (count level least : ℕ) (path : List Step) (page own : ℕ) (es : List InnerEntry) (seen : Seen) → times page seen.pages ≡ 0 → read page ≡ Ok (Inner own es) →
     level ≢ 0 → ((own == level) && is_filled s least (length es)) ≡ true →
     audited_at s read count level least path page seen
-    ≡ each_entry (λ i e after. check_entry s (last_point path) page i e (audited_at s read count (level - 1) (least_for s.words) (path ++ step page i e ∷ []) e.child after)) 0 es (arrived seen page)
+    ≡ each_entry (λ i e after. check_entry s (last_point path) page i e (audited_at s read count (level - 1) (least_for s.dimension) (path ++ step page i e ∷ []) e.child after)) 0 es (arrived seen page)
 inner_page s read count zero least path page own es seen new is more full = absurd (more refl)
 inner_page s read count (suc m) least path page own es seen new is more full =
     rw (new_page (times page seen.pages) new, is, full)
-    (sym (ap (λ (n : ℕ). each_entry (λ i e after. check_entry s (last_point path) page i e (audited_at s read count n (least_for s.words) (path ++ step page i e ∷ []) e.child after)) 0 es (arrived seen page)) (less m)))
+    (sym (ap (λ (n : ℕ). each_entry (λ i e after. check_entry s (last_point path) page i e (audited_at s read count n (least_for s.dimension) (path ++ step page i e ∷ []) e.child after)) 0 es (arrived seen page)) (less m)))
 
 -- a page of another level or count
 pub inner_zero : (s : Space) (read : Read) (count least : ℕ) (path : List Step) (page own level : ℕ) (es : List InnerEntry) (seen : Seen) → times page seen.pages ≡ 0 → read page ≡ Ok (Inner own es) → level ≡ 0 →

@@ -36,7 +36,7 @@ pages_within s read t within (suc h) least above page sound =
     let es : List InnerEntry = sound.0 in (
       within page (Inner (suc h) es) (ok_from_some (read page) (Inner (suc h) es) sound.1),
       rw sound.1 (all_flat_map (IsNodePage t) (λ e. pages_at (nodes_of read) h e.child) es
-          (all_weaker _ _ es (λ e k. pages_within s read t within h (least_for s.words) (Some e.point) e.child k.1) sound.3)),
+          (all_weaker _ _ es (λ e k. pages_within s read t within h (least_for s.dimension) (Some e.point) e.child k.1) sound.3)),
     )
 
 -- the point lies in the spheres of the steps
@@ -107,7 +107,7 @@ push_once xs x once = let n = times-append x xs (x ∷ []) in let o = once x in 
 pub object_passes : (s : Space) (count : ℕ) (above : Option (List ℕ)) (path : List Step) (page i : ℕ) (o : LeafEntry) (seen after : Seen) → OnceSeen seen →
     check_object s count above path page i o seen ≡ Ok after → Passed (FineObject s count above path o) seen [] (o.id ∷ []) after
 object_passes s count above path page i o seen after once is =
-    let a = if_true (s.fits o.point) _ _ after is in
+    let a = if_true (s.is_point o.point) _ _ after is in
     let b = if_true (o.parent == parent_distance s above o.point) _ _ after a.1 in
     let c = inside_ok (first_outside s path o.point) o.id _ after b.1 in
     let d = if_true (nat_lt o.id count && (times o.id seen.ids == 0)) _ _ after c.1 in
@@ -171,10 +171,10 @@ pub ids-flat_map : {X : Type 0} (f : X → List LeafEntry) (xs : List X) → ids
 ids-flat_map f [] = refl
 ids-flat_map f (x ∷ xs) = ids-append (f x) (flat_map f xs) ∙ ap (λ r. ids_of (f x) ++ r) (ids-flat_map f xs)
 
-pub filled : (s : Space) (least count : ℕ) → is_filled s least count ≡ true → IsFilled s.words least count
-filled s least count e = record { enough = (let l : least ≤ count = grind (arith, nat_tests) in l); at_most = (let l : count ≤ most_for s.words = grind (arith, nat_tests) in l) }
+pub filled : (s : Space) (least count : ℕ) → is_filled s least count ≡ true → IsFilled s.dimension least count
+filled s least count e = record { enough = (let l : least ≤ count = grind (arith, nat_tests) in l); at_most = (let l : count ≤ most_for s.dimension = grind (arith, nat_tests) in l) }
 
-pub is_filled-true : (s : Space) (least count : ℕ) → IsFilled s.words least count → is_filled s least count ≡ true
+pub is_filled-true : (s : Space) (least count : ℕ) → IsFilled s.dimension least count → is_filled s least count ≡ true
 is_filled-true s least count f = let a = f.enough in let b = f.at_most in grind (arith, nat_tests)
 
 -- a page that gives a node
@@ -218,34 +218,34 @@ module _ (s : Space) (read : Read) (count : ℕ) where
   -- an entry of an inner node
   abbrev pub FineEntry : ℕ → List Step → InnerEntry → Type 0
   FineEntry h path e =
-      (IsSoundEntry s (last_point path) (objects_at (nodes_of read) h e.child) e × IsSoundAt s (nodes_of read) h (least_for s.words) (Some e.point) e.child) × FineBelow h path e.child
+      (IsSoundEntry s (last_point path) (objects_at (nodes_of read) h e.child) e × IsSoundAt s (nodes_of read) h (least_for s.dimension) (Some e.point) e.child) × FineBelow h path e.child
 
-  pub fine_entry : (h : ℕ) (path : List Step) (page i : ℕ) (e : InnerEntry) → IsTrue (s.fits e.point) → e.parent ≡ parent_distance s (last_point path) e.point →
-      FineAt h (least_for s.words) (path ++ step page i e ∷ []) e.child → FineEntry h path e
-  fine_entry h path page i e fits parent fine =
+  pub fine_entry : (h : ℕ) (path : List Step) (page i : ℕ) (e : InnerEntry) → IsTrue (s.is_point e.point) → e.parent ≡ parent_distance s (last_point path) e.point →
+      FineAt h (least_for s.dimension) (path ++ step page i e ∷ []) e.child → FineEntry h path e
+  fine_entry h path page i e is_point parent fine =
       let split = all_weaker _ (λ o. (Inside s path o.point × (s.dist o.point e.point ≤ e.radius)) × (o.id < count)) (objects_at (nodes_of read) h e.child)
       (λ o k. (inside_front s path (step page i e) o.point k.0, k.1)) fine.1 in (
         (
-          record { point_fits = fits; parent_is = parent; covers = all_weaker _ (λ o. s.dist o.point e.point ≤ e.radius) (objects_at (nodes_of read) h e.child) (λ o k. k.0.1) split },
-          subst (λ (a : Option (List ℕ)). IsSoundAt s (nodes_of read) h (least_for s.words) a e.child) (last_point-push path (step page i e)) fine.0,
+          record { point_fits = is_point; parent_is = parent; covers = all_weaker _ (λ o. s.dist o.point e.point ≤ e.radius) (objects_at (nodes_of read) h e.child) (λ o k. k.0.1) split },
+          subst (λ (a : Option (List ℕ)). IsSoundAt s (nodes_of read) h (least_for s.dimension) a e.child) (last_point-push path (step page i e)) fine.0,
         ),
         all_weaker _ (λ o. Inside s path o.point × (o.id < count)) (objects_at (nodes_of read) h e.child) (λ o k. (k.0.0, k.1)) split,
       )
 
-  pub entry_fine : (h : ℕ) (path : List Step) (page i : ℕ) (e : InnerEntry) → FineEntry h path e → FineAt h (least_for s.words) (path ++ step page i e ∷ []) e.child
+  pub entry_fine : (h : ℕ) (path : List Step) (page i : ℕ) (e : InnerEntry) → FineEntry h path e → FineAt h (least_for s.dimension) (path ++ step page i e ∷ []) e.child
   entry_fine h path page i e fine = (
-    subst (λ (a : Option (List ℕ)). IsSoundAt s (nodes_of read) h (least_for s.words) a e.child) (sym (last_point-push path (step page i e))) fine.0.1,
+    subst (λ (a : Option (List ℕ)). IsSoundAt s (nodes_of read) h (least_for s.dimension) a e.child) (sym (last_point-push path (step page i e))) fine.0.1,
     all_weaker _ _ (objects_at (nodes_of read) h e.child) (λ o k. (inside_push s path (step page i e) o.point k.0.0 k.1, k.0.1))
         (all_both _ _ (objects_at (nodes_of read) h e.child) fine.1 fine.0.0.covers),
   )
 
   pub leaf_ok : (least page : ℕ) (node : Node) (rest : List LeafEntry → Result Seen AuditFault) (after : Seen) → leaf_node s least page node rest ≡ Ok after →
-      (es : List LeafEntry) × (node ≡ Leaf es) × IsFilled s.words least (length es) × (rest es ≡ Ok after)
+      (es : List LeafEntry) × (node ≡ Leaf es) × IsFilled s.dimension least (length es) × (rest es ≡ Ok after)
   leaf_ok least page (Leaf es) rest after is = let a = if_true (is_filled s least (length es)) _ _ after is in (es, refl, filled s least (length es) a.0, a.1)
   leaf_ok least page (Inner level es) rest after is = absurd (cc)
 
   pub inner_ok : (h least page : ℕ) (node : Node) (rest : List InnerEntry → Result Seen AuditFault) (after : Seen) → inner_node s h least page node rest ≡ Ok after →
-      (es : List InnerEntry) × (node ≡ Inner h es) × IsFilled s.words least (length es) × (rest es ≡ Ok after)
+      (es : List InnerEntry) × (node ≡ Inner h es) × IsFilled s.dimension least (length es) × (rest es ≡ Ok after)
   inner_ok h least page (Leaf es) rest after is = absurd (cc)
   inner_ok h least page (Inner level es) rest after is =
       let a = if_true ((level == h) && is_filled s least (length es)) _ _ after is in
@@ -284,9 +284,9 @@ module _ (s : Space) (read : Read) (count : ℕ) where
       let es : List InnerEntry = n.0 in
       let there : nodes_of read page ≡ Some (Inner (suc h) es) = ap node_or_none a.1.1 ∙ ap Some n.1 in
       let each = each_passes (λ i e before. check_entry s (last_point path) page i e
-      (audited_at s read count h (least_for s.words) (path ++ step page i e ∷ []) e.child before))
+      (audited_at s read count h (least_for s.dimension) (path ++ step page i e ∷ []) e.child before))
       (FineEntry h path) (λ e. pages_at (nodes_of read) h e.child) (λ e. ids_of (objects_at (nodes_of read) h e.child))
-      (λ i e before then' fresh ok. one i e before then' fresh ok (λ p b t f k. passes_at h (least_for s.words) p e.child b t f k)) 0 es (arrived seen page) after (once_arrived seen page once a.0) n.3 in
+      (λ i e before then' fresh ok. one i e before then' fresh ok (λ p b t f k. passes_at h (least_for s.dimension) p e.child b t f k)) 0 es (arrived seen page) after (once_arrived seen page once a.0) n.3 in
       let made : after ≡ grown seen (page ∷ flat_map (λ e. pages_at (nodes_of read) h e.child) es) (ids_of (flat_map (λ e. objects_at (nodes_of read) h e.child) es)) =
       each.1 ∙ grown-arrived seen page (flat_map (λ e. pages_at (nodes_of read) h e.child) es) (flat_map (λ e. ids_of (objects_at (nodes_of read) h e.child)) es)
       ∙ ap (λ js. grown seen (page ∷ flat_map (λ e. pages_at (nodes_of read) h e.child) es) js) (sym (ids-flat_map (λ e. objects_at (nodes_of read) h e.child) es)) in (
@@ -299,20 +299,20 @@ module _ (s : Space) (read : Read) (count : ℕ) where
       )
     where
       one : (i : ℕ) (e : InnerEntry) (before then' : Seen) → OnceSeen before →
-          check_entry s (last_point path) page i e (audited_at s read count h (least_for s.words) (path ++ step page i e ∷ []) e.child before) ≡ Ok then' →
-          ((p : List Step) (b t : Seen) → OnceSeen b → audited_at s read count h (least_for s.words) p e.child b ≡ Ok t →
-          Passed (FineAt h (least_for s.words) p e.child) b (pages_at (nodes_of read) h e.child) (ids_of (objects_at (nodes_of read) h e.child)) t) →
+          check_entry s (last_point path) page i e (audited_at s read count h (least_for s.dimension) (path ++ step page i e ∷ []) e.child before) ≡ Ok then' →
+          ((p : List Step) (b t : Seen) → OnceSeen b → audited_at s read count h (least_for s.dimension) p e.child b ≡ Ok t →
+          Passed (FineAt h (least_for s.dimension) p e.child) b (pages_at (nodes_of read) h e.child) (ids_of (objects_at (nodes_of read) h e.child)) t) →
           Passed (FineEntry h path e) before (pages_at (nodes_of read) h e.child) (ids_of (objects_at (nodes_of read) h e.child)) then'
       one i e before then' fresh ok deep =
-          let a = if_true (s.fits e.point) _ _ then' ok in
+          let a = if_true (s.is_point e.point) _ _ then' ok in
           let b = if_true (e.parent == parent_distance s (last_point path) e.point) _ _ then' a.1 in
           let d = deep (path ++ step page i e ∷ []) before then' fresh b.1 in
           (fine_entry h path page i e a.0 (same_number e.parent (parent_distance s (last_point path) e.point) b.0) d.0, d.1, d.2)
 
-  pub ok_leaf : (least page : ℕ) (es : List LeafEntry) (rest : List LeafEntry → Result Seen AuditFault) → IsFilled s.words least (length es) → leaf_node s least page (Leaf es) rest ≡ rest es
+  pub ok_leaf : (least page : ℕ) (es : List LeafEntry) (rest : List LeafEntry → Result Seen AuditFault) → IsFilled s.dimension least (length es) → leaf_node s least page (Leaf es) rest ≡ rest es
   ok_leaf least page es rest full = rw (is_filled-true s least (length es) full) refl
 
-  pub ok_inner : (h least page : ℕ) (es : List InnerEntry) (rest : List InnerEntry → Result Seen AuditFault) → IsFilled s.words least (length es) → inner_node s h least page (Inner h es) rest ≡ rest es
+  pub ok_inner : (h least page : ℕ) (es : List InnerEntry) (rest : List InnerEntry → Result Seen AuditFault) → IsFilled s.dimension least (length es) → inner_node s h least page (Inner h es) rest ≡ rest es
   ok_inner h least page es rest full = rw (number_itself h, is_filled-true s least (length es) full) refl
 
   pub new_page : (seen : Seen) (page : ℕ) (ps js : List ℕ) → OnceSeen (grown seen (page ∷ ps) js) → times page seen.pages ≡ 0
@@ -348,19 +348,19 @@ module _ (s : Space) (read : Read) (count : ℕ) where
       grown-arrived seen page (flat_map (λ e. pages_at (nodes_of read) h e.child) es) (flat_map (λ e. ids_of (objects_at (nodes_of read) h e.child)) es)
       ∙ ap (λ js. grown seen (page ∷ flat_map (λ e. pages_at (nodes_of read) h e.child) es) js) (sym (ids-flat_map (λ e. objects_at (nodes_of read) h e.child) es)) in
       let each = passes_each (λ i e before. check_entry s (last_point path) page i e
-      (audited_at s read count h (least_for s.words) (path ++ step page i e ∷ []) e.child before))
+      (audited_at s read count h (least_for s.dimension) (path ++ step page i e ∷ []) e.child before))
       (FineEntry h path) (λ e. pages_at (nodes_of read) h e.child) (λ e. ids_of (objects_at (nodes_of read) h e.child))
-      (λ i e before good fresh. one i e before good (at_passes h (least_for s.words) (path ++ step page i e ∷ []) e.child before (entry_fine h path page i e good) fresh))
+      (λ i e before good fresh. one i e before good (at_passes h (least_for s.dimension) (path ++ step page i e ∷ []) e.child before (entry_fine h path page i e good) fresh))
       0 es (arrived seen page)
       (all_both _ _ es fine.0.3 (flat_map_all (λ o. Inside s path o.point × (o.id < count)) (λ e. objects_at (nodes_of read) h e.child) es all))
       (subst OnceSeen (sym same) once2) in
       rw there (ok_arrival read page seen _ (Inner (suc h) es) (new_page seen page (flat_map (λ e. pages_at (nodes_of read) h e.child) es) (ids_of (flat_map (λ e. objects_at (nodes_of read) h e.child) es)) once2)
       (ok_from_some (read page) (Inner (suc h) es) there)
-      ∙ ok_inner (suc h) least page es (λ x. each_entry (λ i e after. check_entry s (last_point path) page i e (audited_at s read count h (least_for s.words) (path ++ step page i e ∷ []) e.child after)) 0 x (arrived seen page)) fine.0.2 ∙ each ∙ ap Ok same)
+      ∙ ok_inner (suc h) least page es (λ x. each_entry (λ i e after. check_entry s (last_point path) page i e (audited_at s read count h (least_for s.dimension) (path ++ step page i e ∷ []) e.child after)) 0 x (arrived seen page)) fine.0.2 ∙ each ∙ ap Ok same)
     where
       one : (i : ℕ) (e : InnerEntry) (before : Seen) → FineEntry h path e → {o : Result Seen AuditFault} →
-          audited_at s read count h (least_for s.words) (path ++ step page i e ∷ []) e.child before ≡ o →
-          check_entry s (last_point path) page i e (audited_at s read count h (least_for s.words) (path ++ step page i e ∷ []) e.child before) ≡ o
+          audited_at s read count h (least_for s.dimension) (path ++ step page i e ∷ []) e.child before ≡ o →
+          check_entry s (last_point path) page i e (audited_at s read count h (least_for s.dimension) (path ++ step page i e ∷ []) e.child before) ≡ o
       one i e before good is =
           let p : (e.parent == parent_distance s (last_point path) e.point) ≡ true = rw good.0.0.parent_is (number_itself (parent_distance s (last_point path) e.point)) in
           rw (good.0.0.point_fits, p) is

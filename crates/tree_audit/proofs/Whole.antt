@@ -47,9 +47,9 @@ abbrev Fits : ℕ → List ℕ → Type 0
 Fits limit xs = AllByRecursion (λ n. n < limit) xs × ((n : ℕ) → times n xs ≤ 1)
 
 middle_new : (limit : ℕ) (xs ys zs : List ℕ) → Fits limit (xs ++ (ys ++ zs)) → AreNew (record { limit = limit; met = xs }) ys
-middle_new limit xs ys zs fits = record {
-  within = (append_all (λ n. n < limit) ys zs (append_all (λ n. n < limit) xs (ys ++ zs) fits.0).1).0;
-  once = λ n. (let a = times-append n xs (ys ++ zs) in let b = times-append n ys zs in let d = times-append n xs ys in let f = fits.1 n in omega arith);
+middle_new limit xs ys zs is_point = record {
+  within = (append_all (λ n. n < limit) ys zs (append_all (λ n. n < limit) xs (ys ++ zs) is_point.0).1).0;
+  once = λ n. (let a = times-append n xs (ys ++ zs) in let b = times-append n ys zs in let d = times-append n xs ys in let f = is_point.1 n in omega arith);
 }
   where
     append_all : (P : ℕ → Type 0) (us vs : List ℕ) → AllByRecursion P (us ++ vs) → AllByRecursion P us × AllByRecursion P vs
@@ -112,11 +112,11 @@ module _ (s : Space) (read : Read) (t : Live) where
   entry_passes : (h i : ℕ) (e : InnerEntry) (after : Seen) → t.height - 1 ≡ h → part_told s read t i e ≡ Ok after →
       Passed (FineEntry s read t.count h [] e) nothing (pages_at (nodes_of read) h e.child) (ids_of (objects_at (nodes_of read) h e.child)) after
   entry_passes h i e after low is =
-      let told : check_entry s None t.root i e (audited_at s read t.count h (least_for s.words) (step t.root i e ∷ []) e.child nothing) ≡ Ok after =
-      subst (λ (n : ℕ). check_entry s None t.root i e (audited_at s read t.count n (least_for s.words) (step t.root i e ∷ []) e.child nothing) ≡ Ok after) low is in
-      let a = if_true (s.fits e.point) _ _ after told in
+      let told : check_entry s None t.root i e (audited_at s read t.count h (least_for s.dimension) (step t.root i e ∷ []) e.child nothing) ≡ Ok after =
+      subst (λ (n : ℕ). check_entry s None t.root i e (audited_at s read t.count n (least_for s.dimension) (step t.root i e ∷ []) e.child nothing) ≡ Ok after) low is in
+      let a = if_true (s.is_point e.point) _ _ after told in
       let b = if_true (e.parent == parent_distance s None e.point) _ _ after a.1 in
-      let d = passes_at s read t.count h (least_for s.words) (step t.root i e ∷ []) e.child nothing after nothing_once b.1 in
+      let d = passes_at s read t.count h (least_for s.dimension) (step t.root i e ∷ []) e.child nothing after nothing_once b.1 in
       (fine_entry s read t.count h [] t.root i e a.0 (same_number e.parent (parent_distance s None e.point) b.0) d.0, d.1, d.2)
 
   -- all of them
@@ -136,7 +136,7 @@ module _ (s : Space) (read : Read) (t : Live) where
         (λ k. ids k ++ rest.2 k),
       )
 
-  module _ (h : ℕ) (es : List InnerEntry) (parts : List Part) (high : t.height ≡ suc h) (there : read t.root ≡ Ok (Inner (suc h) es)) (full : IsFilled s.words (root_least (suc h)) (length es))
+  module _ (h : ℕ) (es : List InnerEntry) (parts : List Part) (high : t.height ≡ suc h) (there : read t.root ≡ Ok (Inner (suc h) es)) (full : IsFilled s.dimension (root_least (suc h)) (length es))
       (are : AreWalked s read t 0 es parts) (apart : AreApart t parts) where
     each : AllByRecursion (FineEntry s read t.count h []) es × (pages_met parts ≡ flat_map (λ e. pages_at (nodes_of read) h e.child) es)
         × (ids_met parts ≡ flat_map (λ e. ids_of (objects_at (nodes_of read) h e.child)) es)
@@ -172,8 +172,8 @@ module _ (s : Space) (read : Read) (t : Live) where
     )
 
 pub whole : (s : Space) (read : Read) (t : Live) (es : List InnerEntry) (parts : List Part) (n : ℕ) → t.height ≡ n → 1 ≤ n → read t.root ≡ Ok (Inner t.height es) →
-    IsFilled s.words (root_least t.height) (length es) → AreWalked s read t 0 es parts → AreApart t parts →
+    IsFilled s.dimension (root_least t.height) (length es) → AreWalked s read t 0 es parts → AreApart t parts →
     (audit_fault s read t ≡ None) × (pages_at (nodes_of read) t.height t.root ≡ t.root ∷ pages_met parts)
 whole s read t es parts zero is some there full are apart = absurd (omega arith)
 whole s read t es parts (suc h) is some there full are apart =
-    whole_at s read t h es parts is (there ∙ ap (λ (n : ℕ). Ok (Inner n es)) is) (subst (λ (n : ℕ). IsFilled s.words (root_least n) (length es)) is full) are apart
+    whole_at s read t h es parts is (there ∙ ap (λ (n : ℕ). Ok (Inner n es)) is) (subst (λ (n : ℕ). IsFilled s.dimension (root_least n) (length es)) is full) are apart

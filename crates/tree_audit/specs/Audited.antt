@@ -56,7 +56,7 @@ if_inside (Some t) id rest = Err (Radius t.page t.place id)
 -- an object of a leaf
 abbrev pub check_object : Space → ℕ → Option (List ℕ) → List Step → ℕ → ℕ → LeafEntry → Seen → Result Seen AuditFault
 check_object s count above path page i o seen =
-    if s.fits o.point
+    if s.is_point o.point
     then (if o.parent == parent_distance s above o.point
     then if_inside (first_outside s path o.point) o.id
     (if nat_lt o.id count && (times o.id seen.ids == 0) then Ok (record { pages = seen.pages; ids = seen.ids ++ o.id ∷ [] }) else Err (Id o.id))
@@ -66,12 +66,12 @@ check_object s count above path page i o seen =
 -- an entry of an inner node, before its child
 abbrev pub check_entry : Space → Option (List ℕ) → ℕ → ℕ → InnerEntry → Result Seen AuditFault → Result Seen AuditFault
 check_entry s above page i e rest =
-    if s.fits e.point
+    if s.is_point e.point
     then (if e.parent == parent_distance s above e.point then rest else Err (ParentDistance page i))
     else Err (Unfit page i)
 
 abbrev pub is_filled : Space → ℕ → ℕ → Bool
-is_filled s least count = nat_le least count && nat_le count (most_for s.words)
+is_filled s least count = nat_le least count && nat_le count (most_for s.dimension)
 
 abbrev pub arrived : Seen → ℕ → Seen
 arrived seen page = record { pages = seen.pages ++ page ∷ []; ids = seen.ids }
@@ -100,7 +100,7 @@ audited_at s read count zero least path page seen =
 audited_at s read count (suc h) least path page seen =
     on_arrival read page seen (λ node. inner_node s (suc h) least page node (λ es.
     each_entry (λ i e after. check_entry s (last_point path) page i e
-    (audited_at s read count h (least_for s.words) (path ++ step page i e ∷ []) e.child after)) 0 es (arrived seen page)))
+    (audited_at s read count h (least_for s.dimension) (path ++ step page i e ∷ []) e.child after)) 0 es (arrived seen page)))
 
 -- the walk of the whole tree, and the number of its objects
 abbrev pub after_walk : ℕ → Result Seen AuditFault → Option AuditFault
@@ -117,7 +117,7 @@ IsWalkFault old new told (Page Disk) = Rose old.faults new.faults
 IsWalkFault old new told (Page NoRoom) = ⊥
 IsWalkFault old new told (Page (Repeats page)) = ⊥
 IsWalkFault old new told (Page (Level page)) = ⊥
-IsWalkFault old new told fault = IsTrue old.tells → told ≡ Err fault
+IsWalkFault old new told fault = IsTrue old.is_known → told ≡ Err fault
 
 -- why an audit failed
 abbrev pub HasAuditCause : Shelf → Shelf → Option AuditFault → AuditFault → Type 0
@@ -126,4 +126,4 @@ HasAuditCause old new told (Page Disk) = Rose old.faults new.faults
 HasAuditCause old new told (Page NoRoom) = ⊥
 HasAuditCause old new told (Page (Repeats page)) = ⊥
 HasAuditCause old new told (Page (Level page)) = ⊥
-HasAuditCause old new told fault = IsTrue old.tells → told ≡ Some fault
+HasAuditCause old new told fault = IsTrue old.is_known → told ≡ Some fault

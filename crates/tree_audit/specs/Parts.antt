@@ -50,5 +50,5 @@ pub record AreApart (t : Live) (parts : List Part) : Type 0 where
 abbrev pub PartsMakeTheWhole : Type 0
 PartsMakeTheWhole =
     (s : Space) (read : Read) (t : Live) (es : List InnerEntry) (parts : List Part) → 1 ≤ t.height → read t.root ≡ Ok (Inner t.height es) →
-    IsFilled s.words (root_least t.height) (length es) → AreWalked s read t 0 es parts → AreApart t parts →
+    IsFilled s.dimension (root_least t.height) (length es) → AreWalked s read t 0 es parts → AreApart t parts →
     (audit_fault s read t ≡ None) × (pages_at (nodes_of read) t.height t.root ≡ t.root ∷ pages_met parts)

@@ -32,11 +32,11 @@ IsEntryFault told fault = told ≡ Err fault
 abbrev pub IsOpenFault : Shelf → Shelf → ℕ → AuditFault → Type 0
 IsOpenFault old new page Memory = Unit {0}
 IsOpenFault old new page (Page Disk) = Rose old.faults new.faults
-IsOpenFault old new page (Page (Bad p fault)) = IsTrue old.tells → old.read page ≡ Err (Bad p fault)
-IsOpenFault old new page (Page (Outside p)) = IsTrue old.tells → old.read page ≡ Err (Outside p)
+IsOpenFault old new page (Page (Bad p fault)) = IsTrue old.is_known → old.read page ≡ Err (Bad p fault)
+IsOpenFault old new page (Page (Outside p)) = IsTrue old.is_known → old.read page ≡ Err (Outside p)
 IsOpenFault old new page _ = ⊥
 
 -- what an audit tells of an entry of an inner node that stands at a level above 0
 abbrev pub entry_told : Space → Read → ℕ → ℕ → List Step → ℕ → ℕ → InnerEntry → Seen → Result Seen AuditFault
 entry_told s read count level path page i e seen =
-    check_entry s (last_point path) page i e (audited_at s read count (level - 1) (least_for s.words) (path ++ step page i e ∷ []) e.child seen)
+    check_entry s (last_point path) page i e (audited_at s read count (level - 1) (least_for s.dimension) (path ++ step page i e ∷ []) e.child seen)

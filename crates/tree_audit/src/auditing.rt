@@ -48,7 +48,7 @@ pub fn visits_for(alloc: Global, live: &Live) -> Result<Visits, Memory>
 /// at each entry: its point is not in the space; its stored distance is wrong; at an object, the first radius from the root down
 /// that leaves it out, and an id out of range or met before; at an inner entry, the walk of its child. At the end, another number
 /// of objects than the slot's. Each page is asked for once. The audit takes about 5 bytes for each page and object.
-/// Clauses: what is asked of the caller (`some`, `few`, `dim`, `words`, `pages`); the answer (`ok`, `objects`, `nodes`); what stays
+/// Clauses: what is asked of the caller (`some`, `few`, `dim`, `dimension`, `pages`); the answer (`ok`, `objects`, `nodes`); what stays
 /// (`metric`, `same`, `keeps`); the cost (`asked`, `reads`, `all_asked`, `all_reads`); the cause of an error (`err`); faults of the devices
 /// (`no_fault`).
 pub fn audit<P: Pages, R: Ruler>(
@@ -61,17 +61,17 @@ pub fn audit<P: Pages, R: Ruler>(
     requires some { 1 ≤ dim }
     requires few { dim ≤ 64 }
     requires dim { (P.shelf pages.old).dim ≡ dim }
-    requires words { (R.M.space (R.metric ruler.old)).words ≡ dim }
+    requires dimension { (R.M.space (R.metric ruler.old)).dimension ≡ dim }
     requires pages { live.now.pages ≡ (P.shelf pages.old).pages }
     ensures metric { R.metric ruler.new ≡ R.metric ruler.old }
     ensures same { HoldsSame (P.shelf pages.old) (P.shelf pages.new) }
     ensures keeps { P.keeps pages.old pages.new }
     ensures no_fault { OnOk result ((P.shelf pages.new).faults ≡ (P.shelf pages.old).faults) }
     // It is sound exactly where no fault stands.
-    ensures ok { IfOk result (λ a. IsTrue (P.shelf pages.old).tells →
+    ensures ok { IfOk result (λ a. IsTrue (P.shelf pages.old).is_known →
         audit_fault (R.M.space (R.metric ruler.old)) (P.shelf pages.old).read live.now ≡ None) }
     ensures objects { IfOk result (λ a. a.objects ≡ live.now.count) }
-    ensures nodes { IfOk result (λ a. IsTrue (P.shelf pages.old).tells →
+    ensures nodes { IfOk result (λ a. IsTrue (P.shelf pages.old).is_known →
         a.nodes ≡ length (pages_at (nodes_of (P.shelf pages.old).read) live.now.height live.now.root)) }
     ensures err { IfErr result (HasAuditCause (P.shelf pages.old) (P.shelf pages.new)
         (audit_fault (R.M.space (R.metric ruler.old)) (P.shelf pages.old).read live.now)) }

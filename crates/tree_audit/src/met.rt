@@ -79,7 +79,7 @@ impl Met {
     }
 
     /// States that no number was met twice, and that each number that was met is below the limit.
-    pub fn is_lawful(&self)
+    pub fn is_valid(&self)
         ensures once { (number : ℕ) → times number self.now.met ≤ 1 }
         ensures small { AllByRecursion (λ number. number < self.now.limit) self.now.met }
     {

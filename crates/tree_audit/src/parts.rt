@@ -29,7 +29,7 @@ pub struct Part {
 }
 
 // Walks an entry of the root and the subtree below it.
-// Clauses: what is asked of the caller (`some`, `few`, `above`, `dim`, `words`, `limit`, `fewer`); what changes (`ok`); what stays
+// Clauses: what is asked of the caller (`some`, `few`, `above`, `dim`, `dimension`, `limit`, `fewer`); what changes (`ok`); what stays
 // (`metric`, `same`, `keeps`, `pages_limit`, `fewer`); the cost (`asked`, `reads`); the cause of an error (`err`); faults of the devices
 // (`no_fault`).
 // Arguments: `pages`, `ruler` and `visits` change with each step of the walk, and `root`, `place` and `entry` say where it begins.
@@ -46,14 +46,14 @@ fn walk_entry<P: Pages, R: Ruler>(
     requires few { root.now.dim ≤ 64 }
     requires above { 1 ≤ root.now.level }
     requires dim { (P.shelf pages.old).dim ≡ root.now.dim }
-    requires words { (R.M.space (R.metric ruler.old)).words ≡ root.now.dim }
+    requires dimension { (R.M.space (R.metric ruler.old)).dimension ≡ root.now.dim }
     requires limit { visits.old.pages.limit ≡ (P.shelf pages.old).pages }
     requires fewer { AreFewer visits.old.pages }
     ensures metric { R.metric ruler.new ≡ R.metric ruler.old }
     ensures same { HoldsSame (P.shelf pages.old) (P.shelf pages.new) }
     ensures keeps { P.keeps pages.old pages.new }
     ensures no_fault { OnOk result ((P.shelf pages.new).faults ≡ (P.shelf pages.old).faults) }
-    ensures ok { OnOk result (IsTrue (P.shelf pages.old).tells
+    ensures ok { OnOk result (IsTrue (P.shelf pages.old).is_known
         → entry_told (R.M.space (R.metric ruler.old)) (P.shelf pages.old).read visits.old.ids.limit root.now.level [] root.now.page
         place (inner_of entry.entry) (seen_of visits.old) ≡ Ok (seen_of visits.new)) }
     ensures err { IfErr result (IsWalkFault (P.shelf pages.old) (P.shelf pages.new)
@@ -71,8 +71,8 @@ fn walk_entry<P: Pages, R: Ruler>(
 
 /// Audits the entry of the root at `place`, and the subtree below it, as `audit` does, but as if nothing was met before:
 /// returns what was met, or the first fault. So the parts of a tree can be audited apart from one another.
-/// Clauses: what is asked of the caller (`some`, `few`, `above`, `dim`, `words`, `pages`); the answer (`ok`); what stays (`metric`, `same`,
-/// `keeps`); the cost (`all_asked`, `all_reads`); the cause of an error (`err`); faults of the devices (`no_fault`).
+/// Clauses: what is asked of the caller (`some`, `few`, `above`, `dim`, `dimension`, `pages`); the answer (`ok`); what stays (`metric`,
+/// `same`, `keeps`); the cost (`all_asked`, `all_reads`); the cause of an error (`err`); faults of the devices (`no_fault`).
 /// Arguments: those of `audit`, and `place` and `entry` name the part.
 pub fn audit_part<P: Pages, R: Ruler>(
     alloc: Global,
@@ -87,13 +87,13 @@ pub fn audit_part<P: Pages, R: Ruler>(
     requires few { dim ≤ 64 }
     requires above { 1 ≤ live.now.height }
     requires dim { (P.shelf pages.old).dim ≡ dim }
-    requires words { (R.M.space (R.metric ruler.old)).words ≡ dim }
+    requires dimension { (R.M.space (R.metric ruler.old)).dimension ≡ dim }
     requires pages { live.now.pages ≡ (P.shelf pages.old).pages }
     ensures metric { R.metric ruler.new ≡ R.metric ruler.old }
     ensures same { HoldsSame (P.shelf pages.old) (P.shelf pages.new) }
     ensures keeps { P.keeps pages.old pages.new }
     ensures no_fault { OnOk result ((P.shelf pages.new).faults ≡ (P.shelf pages.old).faults) }
-    ensures ok { IfOk result (λ part. IsTrue (P.shelf pages.old).tells →
+    ensures ok { IfOk result (λ part. IsTrue (P.shelf pages.old).is_known →
         part_told (R.M.space (R.metric ruler.old)) (P.shelf pages.old).read live.now place (inner_of entry.entry) ≡ Ok (met_in part)) }
     ensures err { IfErr result (IsWalkFault (P.shelf pages.old) (P.shelf pages.new)
         (part_told (R.M.space (R.metric ruler.old)) (P.shelf pages.old).read live.now place (inner_of entry.entry))) }
@@ -161,8 +161,8 @@ pub fn join_parts(alloc: Global, live: &Live, parts: &[Part]) -> Result<Option<A
             return Ok(None);
         }
     }
-    visits.pages.is_lawful();
-    visits.ids.is_lawful();
+    visits.pages.is_valid();
+    visits.ids.is_valid();
     if visits.ids.len() != live.count {
         return Ok(None);
     }

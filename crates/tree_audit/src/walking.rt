@@ -122,7 +122,7 @@ fn audit_object<R: Ruler>(
         (leaf_of object.entry) (record { pages = ps; ids = ids.old.met })) v) }
 {
     let point = object.point;
-    if !ruler.fits(point) {
+    if !ruler.is_point(point) {
         return Err(AuditFault::Unfit(page, place));
     }
     if object.parent != parent_of(ruler, path, point) {
@@ -176,7 +176,7 @@ fn audit_entry<R: Ruler>(
         IsEntryFault (check_entry (R.M.space (R.metric ruler.old)) (last_point path.now) page place (inner_of entry.entry) rest) v) }
 {
     let point = entry.point;
-    if !ruler.fits(point) {
+    if !ruler.is_point(point) {
         return Err(AuditFault::Unfit(page, place));
     }
     if entry.parent != parent_of(ruler, path, point) {
@@ -221,7 +221,7 @@ fn audit_leaf<R: Ruler>(
 ) -> Result<(), AuditFault>
     requires some { 1 ≤ at.now.dim }
     requires few { at.now.dim ≤ 64 }
-    requires words { (R.M.space (R.metric ruler.old)).words ≡ at.now.dim }
+    requires dimension { (R.M.space (R.metric ruler.old)).dimension ≡ at.now.dim }
     requires count { length objects.now < 2 ^ 32 }
     ensures same { R.metric ruler.new ≡ R.metric ruler.old }
     ensures limit { ids.new.limit ≡ ids.old.limit }
@@ -325,7 +325,7 @@ pub fn step_down<R: Ruler>(
     })
 }
 
-// Returns whether an inner node has this level and a lawful number of entries.
+// Returns whether an inner node has this level and a valid number of entries.
 fn is_inner(at: &Spot, level: u8, count: usize) -> bool
     requires some { 1 ≤ at.now.dim }
     requires few { at.now.dim ≤ 64 }
@@ -335,7 +335,7 @@ fn is_inner(at: &Spot, level: u8, count: usize) -> bool
 }
 
 /// Walks the subtree of a page in pre-order.
-/// Clauses: what is asked of the caller (`some`, `few`, `dim`, `words`, `limit`, `fewer`); what changes (`ok`); what stays (`metric`,
+/// Clauses: what is asked of the caller (`some`, `few`, `dim`, `dimension`, `limit`, `fewer`); what changes (`ok`); what stays (`metric`,
 /// `same`, `keeps`, `pages_limit`, `ids_limit`, `path`, `fewer`); the cost (`asked`, `reads`, `all_asked`, `all_reads`); the cause of an
 /// error (`err`); faults of the devices (`no_fault`).
 pub fn walk<P: Pages, R: Ruler>(
@@ -349,7 +349,7 @@ pub fn walk<P: Pages, R: Ruler>(
     requires some { 1 ≤ at.dim }
     requires few { at.dim ≤ 64 }
     requires dim { (P.shelf pages.old).dim ≡ at.dim }
-    requires words { (R.M.space (R.metric ruler.old)).words ≡ at.dim }
+    requires dimension { (R.M.space (R.metric ruler.old)).dimension ≡ at.dim }
     requires limit { visits.old.pages.limit ≡ (P.shelf pages.old).pages }
     requires fewer { AreFewer visits.old.pages }
     ensures metric { R.metric ruler.new ≡ R.metric ruler.old }
@@ -359,7 +359,7 @@ pub fn walk<P: Pages, R: Ruler>(
     ensures pages_limit { visits.new.pages.limit ≡ visits.old.pages.limit }
     ensures ids_limit { visits.new.ids.limit ≡ visits.old.ids.limit }
     ensures path { OnOk result (path.new.items ≡ path.old.items) }
-    ensures ok { OnOk result (IsTrue (P.shelf pages.old).tells
+    ensures ok { OnOk result (IsTrue (P.shelf pages.old).is_known
         → audited_at (R.M.space (R.metric ruler.old)) (P.shelf pages.old).read visits.old.ids.limit at.level at.least
         path.old.items at.page (seen_of visits.old) ≡ Ok (seen_of visits.new)) }
     ensures err { IfErr result (IsWalkFault (P.shelf pages.old) (P.shelf pages.new)

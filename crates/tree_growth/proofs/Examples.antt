@@ -18,7 +18,7 @@ total (x ∷ a) (y ∷ b) = gap x y + total a b
 
 -- the numbers, each a point of one coordinate
 abbrev pub line : Space
-line = record { words = 1; fits = λ p. length p == 1; dist = total }
+line = record { dimension = 1; is_point = λ p. length p == 1; dist = total }
 
 abbrev pub numbers : ℕ → List Ball
 numbers n = map (λ x. (x ∷ [], 0)) (range_with_len 0 n)

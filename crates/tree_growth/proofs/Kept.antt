@@ -14,7 +14,7 @@ use Rattle.tree_growth.specs.Dealing.{Ball, Split}
 use Rattle.tree_shape.specs.Sound.{ObjectFits, BranchCovers, IsSoundPlain}
 
 abbrev pub IsSoundBranch : Space → (h : ℕ) → Branch (Plain h) → Type 0
-IsSoundBranch s h b = IsTrue (s.fits b.point) × BranchCovers s h b × IsSoundPlain s h (least_for s.words) b.below
+IsSoundBranch s h b = IsTrue (s.is_point b.point) × BranchCovers s h b × IsSoundPlain s h (least_for s.dimension) b.below
 
 abbrev pub IsSoundGrown : Space → (h : ℕ) → ℕ → Grown (Plain h) → Type 0
 IsSoundGrown s h least (One t) = IsSoundPlain s h least t
@@ -24,19 +24,19 @@ IsSoundGrown s h least (Two c d) = IsSoundBranch s h c × IsSoundBranch s h d
 abbrev pub Reaches : Space → Ball → List Ball → Type 0
 Reaches s c bs = AllByRecursion (λ b. capped (s.dist b.0 c.0) b.1 ≤ c.1) bs
 
-pub record IsLawfulSplit (s : Space) (bs : List Ball) (w : Split) : Type 0 where
-  pub first_enough : least_for s.words ≤ length (taken w.mask bs)
-  pub second_enough : least_for s.words ≤ length (left w.mask bs)
+pub record IsValidSplit (s : Space) (bs : List Ball) (w : Split) : Type 0 where
+  pub first_enough : least_for s.dimension ≤ length (taken w.mask bs)
+  pub second_enough : least_for s.dimension ≤ length (left w.mask bs)
   pub first_in : IsIn w.first.0 (map (λ b. b.0) bs)
   pub second_in : IsIn w.second.0 (map (λ b. b.0) bs)
   pub first_reaches : Reaches s w.first (taken w.mask bs)
   pub second_reaches : Reaches s w.second (left w.mask bs)
 
-pub record IsLawful (s : Space) (R : Rules) : Type 0 where
-  pub most_is : R.most ≡ most_for s.words
+pub record IsValid (s : Space) (R : Rules) : Type 0 where
+  pub most_is : R.most ≡ most_for s.dimension
   pub dist_is : R.dist ≡ s.dist
   pub chooses : (bs : List Ball) (p : List ℕ) → 0 < length bs → R.choose bs p < length bs
-  pub splits : (bs : List Ball) → length bs ≡ most_for s.words + 1 → IsLawfulSplit s bs (R.split bs)
+  pub splits : (bs : List Ball) → length bs ≡ most_for s.dimension + 1 → IsValidSplit s bs (R.split bs)
 
 -- masks and maps
 pub taken_map : {X Y : Type 0} (f : X → Y) (ms : List Bool) (xs : List X) → taken ms (map f xs) ≡ map f (taken ms xs)
@@ -83,7 +83,7 @@ pub objects_fit : (s : Space) (h least : ℕ) (t : Plain h) → IsSoundPlain s h
 objects_fit s zero least os sound = sound.1
 objects_fit s (suc h) least bs sound =
     all_flat_map (ObjectFits s) (λ (b : Branch (Plain h)). objects_in h b.below) bs
-    (all_weaker (IsSoundBranch s h) (λ (b : Branch (Plain h)). AllByRecursion (ObjectFits s) (objects_in h b.below)) bs (λ b w. objects_fit s h (least_for s.words) b.below w.2) sound.1)
+    (all_weaker (IsSoundBranch s h) (λ (b : Branch (Plain h)). AllByRecursion (ObjectFits s) (objects_in h b.below)) bs (λ b w. objects_fit s h (least_for s.dimension) b.below w.2) sound.1)
 
 -- a distance by way of another point, within what the capped sum says
 pub reach_far : (d e r c x : ℕ) → d ≤ x → x ≤ e + r → e ≤ c → x ≤ c → d ≤ x
@@ -93,44 +93,44 @@ pub by_way : (x y z radius : ℕ) → z ≤ x + y → z ≤ bound → x ≤ radi
 by_way x y z radius tri low inside big reach = omega arith
 
 -- the ball of a half reaches over all objects below its entries
-pub half_covers : (s : Space) → IsSpace s → (h : ℕ) (c : Ball) → IsTrue (s.fits c.0) → (bs : List (Branch (Plain h))) → AllByRecursion (IsSoundBranch s h) bs → Reaches s c (map branch_ball bs) →
+pub half_covers : (s : Space) → IsSpace s → (h : ℕ) (c : Ball) → IsTrue (s.is_point c.0) → (bs : List (Branch (Plain h))) → AllByRecursion (IsSoundBranch s h) bs → Reaches s c (map branch_ball bs) →
     AllByRecursion (λ o. s.dist o.point c.0 ≤ c.1) (objects_in (suc h) bs)
-half_covers s space h c fits [] sound reach = tt
-half_covers s space h c fits (b ∷ bs) sound reach =
+half_covers s space h c is_point [] sound reach = tt
+half_covers s space h c is_point (b ∷ bs) sound reach =
     all_append (λ (o : Object). s.dist o.point c.0 ≤ c.1) (objects_in h b.below) (objects_in (suc h) bs)
     (all_both (ObjectFits s) (λ (o : Object). s.dist o.point b.point ≤ b.radius) (λ (o : Object). s.dist o.point c.0 ≤ c.1) (objects_in h b.below)
-    (λ o f w. by_way (s.dist o.point b.point) (s.dist b.point c.0) (s.dist o.point c.0) b.radius (space.triangle o.point b.point c.0 f sound.0.0 fits) (space.bounded o.point c.0 f fits) w c.1 reach.0)
-    (objects_fit s h (least_for s.words) b.below sound.0.2) sound.0.1)
-    (half_covers s space h c fits bs sound.1 reach.1)
+    (λ o f w. by_way (s.dist o.point b.point) (s.dist b.point c.0) (s.dist o.point c.0) b.radius (space.triangle o.point b.point c.0 f sound.0.0 is_point) (space.bounded o.point c.0 f is_point) w c.1 reach.0)
+    (objects_fit s h (least_for s.dimension) b.below sound.0.2) sound.0.1)
+    (half_covers s space h c is_point bs sound.1 reach.1)
 
-pub leaf_covers : (s : Space) → IsSpace s → (c : Ball) → IsTrue (s.fits c.0) → (os : List Object) → AllByRecursion (ObjectFits s) os → Reaches s c (map object_ball os) →
+pub leaf_covers : (s : Space) → IsSpace s → (c : Ball) → IsTrue (s.is_point c.0) → (os : List Object) → AllByRecursion (ObjectFits s) os → Reaches s c (map object_ball os) →
     AllByRecursion (λ o. s.dist o.point c.0 ≤ c.1) os
-leaf_covers s space c fits [] sound reach = tt
-leaf_covers s space c fits (o ∷ os) sound reach =
-    (by_way 0 (s.dist o.point c.0) (s.dist o.point c.0) 0 (omega arith) (space.bounded o.point c.0 sound.0 fits) (omega arith) c.1 reach.0, leaf_covers s space c fits os sound.1 reach.1)
+leaf_covers s space c is_point [] sound reach = tt
+leaf_covers s space c is_point (o ∷ os) sound reach =
+    (by_way 0 (s.dist o.point c.0) (s.dist o.point c.0) 0 (omega arith) (space.bounded o.point c.0 sound.0 is_point) (omega arith) c.1 reach.0, leaf_covers s space c is_point os sound.1 reach.1)
 
-module _ (s : Space) (space : IsSpace s) (some : 1 ≤ least_for s.words) (R : Rules) (lawful : IsLawful s R) where
+module _ (s : Space) (space : IsSpace s) (some : 1 ≤ least_for s.dimension) (R : Rules) (valid : IsValid s R) where
   -- a leaf that may have one object too many
-  pub fit_leaf : (least : ℕ) (os : List Object) → least ≤ length os → length os ≤ most_for s.words + 1 → AllByRecursion (ObjectFits s) os → IsSoundGrown s zero least (fit R object_ball os)
+  pub fit_leaf : (least : ℕ) (os : List Object) → least ≤ length os → length os ≤ most_for s.dimension + 1 → AllByRecursion (ObjectFits s) os → IsSoundGrown s zero least (fit R object_ball os)
   fit_leaf least os enough few sound = cases (nat_le (length os) R.most) refl
     where
       cases : (b : Bool) → nat_le (length os) R.most ≡ b → IsSoundGrown s zero least (if b then One os
           else Two (branch (R.split (map object_ball os)).first (taken (R.split (map object_ball os)).mask os)) (branch (R.split (map object_ball os)).second (left (R.split (map object_ball os)).mask os)))
-      cases true e = let m = lawful.most_is in (record { enough = enough; at_most = (let f : length os ≤ R.most = grind (arith, nat_tests) in omega arith) }, sound)
+      cases true e = let m = valid.most_is in (record { enough = enough; at_most = (let f : length os ≤ R.most = grind (arith, nat_tests) in omega arith) }, sound)
       cases false e =
-          let m = lawful.most_is in
+          let m = valid.most_is in
           let full : R.most < length os = grind (arith, nat_tests) in
           let bs : List Ball = map object_ball os in
           let n = length_map object_ball os in
-          let w = lawful.splits bs (omega arith) in
+          let w = valid.splits bs (omega arith) in
           let ms : List Bool = (R.split bs).mask in
           let both = parts_long ms os in
           let a : length (taken ms bs) ≡ length (taken ms os) = ap length (taken_map object_ball ms os) ∙ length_map object_ball (taken ms os) in
           let b : length (left ms bs) ≡ length (left ms os) = ap length (left_map object_ball ms os) ∙ length_map object_ball (left ms os) in
           let u = w.first_enough in
           let v = w.second_enough in
-          let fit₁ = point_in (λ p. IsTrue (s.fits p)) (λ (o : Object). o.point) object_ball (R.split bs).first.0 os (λ o. refl) w.first_in sound in
-          let fit₂ = point_in (λ p. IsTrue (s.fits p)) (λ (o : Object). o.point) object_ball (R.split bs).second.0 os (λ o. refl) w.second_in sound in (
+          let fit₁ = point_in (λ p. IsTrue (s.is_point p)) (λ (o : Object). o.point) object_ball (R.split bs).first.0 os (λ o. refl) w.first_in sound in
+          let fit₂ = point_in (λ p. IsTrue (s.is_point p)) (λ (o : Object). o.point) object_ball (R.split bs).second.0 os (λ o. refl) w.second_in sound in (
             (
               fit₁,
               leaf_covers s space (R.split bs).first fit₁ (taken ms os) (all_taken (ObjectFits s) ms os sound) (subst (Reaches s (R.split bs).first) (taken_map object_ball ms os) w.first_reaches),
@@ -144,27 +144,27 @@ module _ (s : Space) (space : IsSpace s) (some : 1 ≤ least_for s.words) (R : R
           )
 
   -- an inner node that may have one entry too many
-  pub fit_inner : (h least : ℕ) (os : List (Branch (Plain h))) → least ≤ length os → length os ≤ most_for s.words + 1 → AllByRecursion (IsSoundBranch s h) os → IsSoundGrown s (suc h) least (fit R branch_ball os)
+  pub fit_inner : (h least : ℕ) (os : List (Branch (Plain h))) → least ≤ length os → length os ≤ most_for s.dimension + 1 → AllByRecursion (IsSoundBranch s h) os → IsSoundGrown s (suc h) least (fit R branch_ball os)
   fit_inner h least os enough few sound = cases (nat_le (length os) R.most) refl
     where
       cases : (b : Bool) → nat_le (length os) R.most ≡ b → IsSoundGrown s (suc h) least (if b then One os
           else Two (branch (R.split (map branch_ball os)).first (taken (R.split (map branch_ball os)).mask os)) (branch (R.split (map branch_ball os)).second (left (R.split (map branch_ball os)).mask os)))
-      cases true e = let m = lawful.most_is in (record { enough = enough; at_most = (let f : length os ≤ R.most = grind (arith, nat_tests) in omega arith) }, sound)
+      cases true e = let m = valid.most_is in (record { enough = enough; at_most = (let f : length os ≤ R.most = grind (arith, nat_tests) in omega arith) }, sound)
       cases false e =
-          let m = lawful.most_is in
+          let m = valid.most_is in
           let full : R.most < length os = grind (arith, nat_tests) in
           let bs : List Ball = map branch_ball os in
           let n = length_map branch_ball os in
-          let w = lawful.splits bs (omega arith) in
+          let w = valid.splits bs (omega arith) in
           let ms : List Bool = (R.split bs).mask in
           let both = parts_long ms os in
           let a : length (taken ms bs) ≡ length (taken ms os) = ap length (taken_map branch_ball ms os) ∙ length_map branch_ball (taken ms os) in
           let b : length (left ms bs) ≡ length (left ms os) = ap length (left_map branch_ball ms os) ∙ length_map branch_ball (left ms os) in
           let u = w.first_enough in
           let v = w.second_enough in
-          let points = all_weaker (IsSoundBranch s h) (λ (b : Branch (Plain h)). IsTrue (s.fits b.point)) os (λ b k. k.0) sound in
-          let fit₁ = point_in (λ p. IsTrue (s.fits p)) (λ (b : Branch (Plain h)). b.point) branch_ball (R.split bs).first.0 os (λ b. refl) w.first_in points in
-          let fit₂ = point_in (λ p. IsTrue (s.fits p)) (λ (b : Branch (Plain h)). b.point) branch_ball (R.split bs).second.0 os (λ b. refl) w.second_in points in (
+          let points = all_weaker (IsSoundBranch s h) (λ (b : Branch (Plain h)). IsTrue (s.is_point b.point)) os (λ b k. k.0) sound in
+          let fit₁ = point_in (λ p. IsTrue (s.is_point p)) (λ (b : Branch (Plain h)). b.point) branch_ball (R.split bs).first.0 os (λ b. refl) w.first_in points in
+          let fit₂ = point_in (λ p. IsTrue (s.is_point p)) (λ (b : Branch (Plain h)). b.point) branch_ball (R.split bs).second.0 os (λ b. refl) w.second_in points in (
             (
               fit₁,
               half_covers s space h (R.split bs).first fit₁ (taken ms os) (all_taken (IsSoundBranch s h) ms os sound) (subst (Reaches s (R.split bs).first) (taken_map branch_ball ms os) w.first_reaches),
@@ -248,18 +248,18 @@ grown_at_long {X} grow far zero (b ∷ bs) = cases (grow b.below)
     cases (Two c e) = let m = more bs e in (omega arith, omega arith)
 grown_at_long grow far (suc i) (b ∷ bs) = let ih = grown_at_long grow far i bs in let l = ih.0 in let h = ih.1 in (omega arith, omega arith)
 
-module _ (s : Space) (space : IsSpace s) (some : 1 ≤ least_for s.words) (R : Rules) (lawful : IsLawful s R) (o : Object) (fits : ObjectFits s o) where
+module _ (s : Space) (space : IsSpace s) (some : 1 ≤ least_for s.dimension) (R : Rules) (valid : IsValid s R) (o : Object) (is_point : ObjectFits s o) where
   -- the chosen branch with what it has grown to
   pub with_grown_sound : (h : ℕ) (b : Branch (Plain h)) (bs : List (Branch (Plain h))) (g : Grown (Plain h)) → IsSoundBranch s h b → AllByRecursion (IsSoundBranch s h) bs →
-      IsSoundGrown s h (least_for s.words) g → GrownAll (λ p. s.dist p.point b.point ≤ max b.radius (s.dist o.point b.point)) h g →
+      IsSoundGrown s h (least_for s.dimension) g → GrownAll (λ p. s.dist p.point b.point ≤ max b.radius (s.dist o.point b.point)) h g →
       AllByRecursion (IsSoundBranch s h) (with_grown (s.dist o.point b.point) b g bs)
   with_grown_sound h b bs (One x) here rest grown all = ((here.0, all, grown), rest)
   with_grown_sound h b bs (Two c e) here rest grown all = (grown.0, all_append (IsSoundBranch s h) bs (e ∷ []) rest (grown.1, tt))
 
   pub inserted_sound : (h least : ℕ) (t : Plain h) → (0 < h → 1 ≤ least) → IsSoundPlain s h least t → IsSoundGrown s h least (inserted R o h t)
   inserted_sound zero least os filled sound =
-      fit_leaf s space some R lawful least (os ++ o ∷ []) (let l = more os in let e = sound.0.enough in omega arith) (let l = more os in let e = sound.0.at_most in omega arith)
-      (all_append (ObjectFits s) os (o ∷ []) sound.1 (fits, tt))
+      fit_leaf s space some R valid least (os ++ o ∷ []) (let l = more os in let e = sound.0.enough in omega arith) (let l = more os in let e = sound.0.at_most in omega arith)
+      (all_append (ObjectFits s) os (o ∷ []) sound.1 (is_point, tt))
     where
       more : (xs : List Object) → length (xs ++ o ∷ []) ≡ length xs + 1
       more [] = refl
@@ -269,14 +269,14 @@ module _ (s : Space) (space : IsSpace s) (some : 1 ≤ least_for s.words) (R : R
       let long = grown_at_long (inserted R o h) (R.dist o.point) i bs in
       let l = long.0 in
       let u = long.1 in
-      fit_inner s space some R lawful h least (grown_at (inserted R o h) (R.dist o.point) i bs) (let e = sound.0.enough in omega arith) (let e = sound.0.at_most in omega arith)
-      (subst (λ (d : List ℕ → List ℕ → ℕ). AllByRecursion (IsSoundBranch s h) (grown_at (inserted R o h) (d o.point) i bs)) (sym lawful.dist_is)
-      (each i bs sound.1 (λ t k. inserted_sound h (least_for s.words) t (λ z. some) k)))
+      fit_inner s space some R valid h least (grown_at (inserted R o h) (R.dist o.point) i bs) (let e = sound.0.enough in omega arith) (let e = sound.0.at_most in omega arith)
+      (subst (λ (d : List ℕ → List ℕ → ℕ). AllByRecursion (IsSoundBranch s h) (grown_at (inserted R o h) (d o.point) i bs)) (sym valid.dist_is)
+      (each i bs sound.1 (λ t k. inserted_sound h (least_for s.dimension) t (λ z. some) k)))
     where
       wider : (cs : Branch (Plain h)) → IsSoundBranch s h cs → AllByRecursion (λ p. s.dist p.point cs.point ≤ max cs.radius (s.dist o.point cs.point)) (objects_in h cs.below)
       wider c w = all_weaker (λ (p : Object). s.dist p.point c.point ≤ c.radius) (λ (p : Object). s.dist p.point c.point ≤ max c.radius (s.dist o.point c.point)) (objects_in h c.below) (λ p k. omega arith) w.1
 
-      each : (i : ℕ) (cs : List (Branch (Plain h))) → AllByRecursion (IsSoundBranch s h) cs → ((t : Plain h) → IsSoundPlain s h (least_for s.words) t → IsSoundGrown s h (least_for s.words) (inserted R o h t)) →
+      each : (i : ℕ) (cs : List (Branch (Plain h))) → AllByRecursion (IsSoundBranch s h) cs → ((t : Plain h) → IsSoundPlain s h (least_for s.dimension) t → IsSoundGrown s h (least_for s.dimension) (inserted R o h t)) →
           AllByRecursion (IsSoundBranch s h) (grown_at (inserted R o h) (s.dist o.point) i cs)
       each i [] all ih = tt
       each zero (c ∷ cs) all ih =

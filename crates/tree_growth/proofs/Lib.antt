@@ -5,7 +5,7 @@ pub mod Loaded
 pub mod Fair
 pub mod TableRows
 pub mod Kept
-pub mod Lawful
+pub mod Valid
 pub mod Entries
 pub mod LoadSound
 pub mod Parted

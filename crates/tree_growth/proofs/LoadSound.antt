@@ -49,8 +49,8 @@ groups_long a [] ks ps = refl
 groups_long a (s ∷ seeds) ks ps = ap suc (groups_long (a + 1) seeds ks ps)
 
 pub seeds_low : (n g i left : ℕ) → 0 < n → i + left ≤ g → AllByRecursion (λ s. s < n) (seeds_from n g i left)
-seeds_low n g i zero some fits = tt
-seeds_low n g i (suc left) some fits = (inside, seeds_low n g (i + 1) left some (omega arith))
+seeds_low n g i zero some is_point = tt
+seeds_low n g i (suc left) some is_point = (inside, seeds_low n g (i + 1) left some (omega arith))
   where
     inside : i * n / g < n
     inside = (div-lt_iff_lt-mul (let h : 0 < g = omega arith in h)).1 (let m = mul-lt-mul_of_pos_right {m = i} {n = g} {k = n} (omega arith) some in omega arith)
@@ -70,8 +70,8 @@ places_long k zero = refl
 places_long k (suc n) = ap suc (places_long (k + 1) n)
 
 pub places_low : (k n m : ℕ) → k + n ≤ m → AllByRecursion (λ j. j < m) (places_from k n)
-places_low k zero m fits = tt
-places_low k (suc n) m fits = (omega arith, places_low (k + 1) n m (omega arith))
+places_low k zero m is_point = tt
+places_low k (suc n) m is_point = (omega arith, places_low (k + 1) n m (omega arith))
 
 -- the number of groups
 pub group_most : (most least : ℕ) (is_root : Bool) (room n : ℕ) → least ≤ most → group_count most least is_root room n ≤ most
@@ -115,21 +115,21 @@ height_is most n h (suc left) up =
       ],
     )
 
-module _ (s : Space) (space : IsSpace s) (rows : List (List ℕ)) (tags : List ℕ) (fits : AllByRecursion (λ p. IsTrue (s.fits p)) rows) where
+module _ (s : Space) (space : IsSpace s) (rows : List (List ℕ)) (tags : List ℕ) (is_point : AllByRecursion (λ p. IsTrue (s.is_point p)) rows) where
   abbrev pub most : ℕ
-  most = most_for s.words
+  most = most_for s.dimension
 
   abbrev pub least : ℕ
-  least = least_for s.words
+  least = least_for s.dimension
 
   abbrev pub load : Load
-  load = record { space = s; points = rows; tags = tags; most = most_for s.words; least = least_for s.words }
+  load = record { space = s; points = rows; tags = tags; most = most_for s.dimension; least = least_for s.dimension }
 
   abbrev pub IsPlace : ℕ → Type 0
   IsPlace k = k < length rows
 
-  pub place_fits : (k : ℕ) → IsPlace k → IsTrue (s.fits (point_of load k))
-  place_fits k low = point_at_place (λ p. IsTrue (s.fits p)) rows k fits low
+  pub place_fits : (k : ℕ) → IsPlace k → IsTrue (s.is_point (point_of load k))
+  place_fits k low = point_at_place (λ p. IsTrue (s.is_point p)) rows k is_point low
 
   abbrev pub branch_at : (h : ℕ) → Group → Branch (Plain h)
   branch_at h p = record { point = point_of load p.seed; radius = radius_of load (point_of load p.seed) p.members; below = built_at load false h p.members }
@@ -188,7 +188,7 @@ module _ (s : Space) (space : IsSpace s) (rows : List (List ℕ)) (tags : List �
       rw length-map (groups_long 0 (seeds_from n g 0 g) ks (grouped (entry (table_of load ks (seeds_from n g 0 g))) (least ^ suc h) (most ^ suc h) g n) ∙ length_seeds n g 0 g)
 
   abbrev pub IsSoundBranch : (h : ℕ) → Branch (Plain h) → Type 0
-  IsSoundBranch h b = IsTrue (s.fits b.point) × BranchCovers s h b × IsSoundPlain s h least b.below
+  IsSoundBranch h b = IsTrue (s.is_point b.point) × BranchCovers s h b × IsSoundPlain s h least b.below
 
   pub branches_sound : (h : ℕ) (gs : List Group) → ((ks : List ℕ) → AllByRecursion IsPlace ks → least ^ suc h ≤ length ks → length ks ≤ most ^ suc h → IsSoundPlain s h least (built_at load false h ks)) →
       AllByRecursion (IsGood (suc h)) gs → AllByRecursion (IsSoundBranch h) (map (branch_at h) gs)
@@ -201,13 +201,13 @@ module _ (s : Space) (space : IsSpace s) (rows : List (List ℕ)) (tags : List �
       )) all
 
   pub four_times : 4 * least ≤ most
-  four_times = let three = three_at_least s.words space.few_words in omega arith
+  four_times = let three = three_at_least s.dimension space.few_words in omega arith
 
   pub leaf_sound : (lowest : ℕ) (is_root : Bool) (ks : List ℕ) → AllByRecursion IsPlace ks → lowest ≤ length ks → length ks ≤ most → IsSoundPlain s zero lowest (built_at load is_root zero ks)
   leaf_sound lowest is_root ks low enough few =
       (filled, all_mapped IsPlace (ObjectFits s) (object_at load) ks (λ k p. place_fits k p) low)
     where
-      filled : IsFilled s.words lowest (length (map (object_at load) ks))
+      filled : IsFilled s.dimension lowest (length (map (object_at load) ks))
       filled = rw length-map (record { enough = enough; at_most = few })
 
   pub built_sound : (h : ℕ) (ks : List ℕ) → AllByRecursion IsPlace ks → least ^ suc h ≤ length ks → length ks ≤ most ^ suc h → IsSoundPlain s h least (built_at load false h ks)
@@ -215,7 +215,7 @@ module _ (s : Space) (space : IsSpace s) (rows : List (List ℕ)) (tags : List �
       let l = power_one least in let m = power_one most in leaf_sound least false ks low (omega arith) (omega arith)
   built_sound (suc h) ks low enough few =
       let n : ℕ = length ks in
-      let three = three_at_least s.words space.few_words in
+      let three = three_at_least s.dimension space.few_words in
       let some = power_some least (suc h) (omega arith) in
       let wide = powers_wide most least h four_times in
       let p = pow-suc least (suc h) in
@@ -240,7 +240,7 @@ module _ (s : Space) (space : IsSpace s) (rows : List (List ℕ)) (tags : List �
       inner above =
           let ks : List ℕ = places load in
           let l : length ks ≡ length rows = places_long 0 (length rows) in
-          let three = three_at_least s.words space.few_words in
+          let three = three_at_least s.dimension space.few_words in
           let some = power_some least (suc h) (omega arith) in
           let wide = powers_wide most least h four_times in
           let q = pow-suc most (suc h) in
@@ -258,12 +258,12 @@ module _ (s : Space) (space : IsSpace s) (rows : List (List ℕ)) (tags : List �
           two_groups (suc zero) n spare more = absurd (omega arith)
           two_groups (suc (suc g)) n spare more = omega arith
 
-pub load_is_sound : (s : Space) → IsSpace s → (rows : List (List ℕ)) (tags : List ℕ) → AllByRecursion (λ p. IsTrue (s.fits p)) rows → IsSoundTall s (built s rows tags)
-load_is_sound s space rows tags fits =
+pub load_is_sound : (s : Space) → IsSpace s → (rows : List (List ℕ)) (tags : List ℕ) → AllByRecursion (λ p. IsTrue (s.is_point p)) rows → IsSoundTall s (built s rows tags)
+load_is_sound s space rows tags is_point =
     let n : ℕ = length rows in
-    let most : ℕ = most_for s.words in
-    let three = three_at_least s.words space.few_words in
-    let four = four_times s space rows tags fits in
+    let most : ℕ = most_for s.dimension in
+    let three = three_at_least s.dimension space.few_words in
+    let four = four_times s space rows tags is_point in
     let g : n + 2 ≤ most ^ suc n = (let h = grows most (suc n) (omega arith) in omega arith) in
     let is = height_is most n 0 n (subst (λ (k : ℕ). n ≤ most ^ k) (let e : suc n ≡ 0 + n + 1 = omega arith in e) (omega arith)) in
-    root_sound s space rows tags fits (height_of most n) (subst (λ (k : ℕ). n ≤ most ^ k) (let e : height_of most n + 1 ≡ suc (height_of most n) = omega arith in e) is.0) is.1
+    root_sound s space rows tags is_point (height_of most n) (subst (λ (k : ℕ). n ≤ most ^ k) (let e : height_of most n + 1 ≡ suc (height_of most n) = omega arith in e) is.0) is.1

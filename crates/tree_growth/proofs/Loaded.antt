@@ -33,15 +33,15 @@ counted_long (Some b) counts = length_more b.1 counts
 
 pub placed_low : (far : Far) (room g : ℕ) → 0 < g → (k i : ℕ) (seeds counts : List ℕ) (left : ℕ) → i + length seeds ≤ g → length counts ≡ g →
     IsLow g left (placed_from far room k seeds i counts left)
-placed_low far room g some k i seeds counts zero fits long = (refl, tt)
-placed_low far room g some k i [] counts (suc left) fits long =
+placed_low far room g some k i seeds counts zero is_point long = (refl, tt)
+placed_low far room g some k i [] counts (suc left) is_point long =
     let best : Option (ℕ × ℕ) = nearest_from far room k 0 None counts in
-    let rest = placed_low far room g some (k + 1) i [] (counted best counts) left fits (counted_long best counts ∙ long) in
+    let rest = placed_low far room g some (k + 1) i [] (counted best counts) left is_point (counted_long best counts ∙ long) in
     (ap suc rest.0, (chosen_low far room k g counts some long, rest.1))
-placed_low far room g some k i (s ∷ seeds) counts (suc left) fits long =
+placed_low far room g some k i (s ∷ seeds) counts (suc left) is_point long =
     let best : Option (ℕ × ℕ) = nearest_from far room k 0 None counts in
     cases (s == k) (placed_low far room g some (k + 1) (i + 1) seeds counts left (omega arith) long)
-    (placed_low far room g some (k + 1) i (s ∷ seeds) (counted best counts) left fits (counted_long best counts ∙ long))
+    (placed_low far room g some (k + 1) i (s ∷ seeds) (counted best counts) left is_point (counted_long best counts ∙ long))
   where
     cases : (b : Bool) → IsLow g left (placed_from far room (k + 1) seeds (i + 1) counts left) →
         IsLow g left (placed_from far room (k + 1) (s ∷ seeds) i (counted (nearest_from far room k 0 None counts) counts) left) →
@@ -60,8 +60,8 @@ received_low far least g n a (suc need) ps low all =
     received_low far least g n a need (moved_to a (candidate_from far least a ps 0 None ps) ps) low (moved_low g n a (candidate_from far least a ps 0 None ps) ps low all)
 
 pub filled_low : (far : Far) (least g n a left : ℕ) (ps : List Member) → a + left ≤ g → IsLow g n ps → IsLow g n (filled_from far least a left ps)
-filled_low far least g n a zero ps fits all = all
-filled_low far least g n a (suc left) ps fits all =
+filled_low far least g n a zero ps is_point all = all
+filled_low far least g n a (suc left) ps is_point all =
     filled_low far least g n (a + 1) left (received far least a (least - in_group a ps) ps) (omega arith) (received_low far least g n a (least - in_group a ps) ps (omega arith) all)
 
 pub grouped_low : (far : Far) (least room g n : ℕ) → (0 < n → 0 < g) → IsLow g n (grouped far least room g n)

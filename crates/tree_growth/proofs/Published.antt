@@ -15,7 +15,7 @@ pub use Rattle.tree_growth.proofs.TableRows.{row_of_table}
 -- An insertion keeps a tree sound.
 pub use Rattle.tree_growth.proofs.Kept.{taken_map, left_map, all_taken, all_left, parts_long, GrownAll, inserted_all}
 -- The rules keep what a split has to keep.
-pub use Rattle.tree_growth.proofs.Lawful.{taken_tally, left_tally, get_map, promoted_pair, insertion_keeps_sound}
+pub use Rattle.tree_growth.proofs.Valid.{taken_tally, left_tally, get_map, promoted_pair, insertion_keeps_sound}
 -- Each inner node of a sound tree has an entry.
 pub use Rattle.tree_growth.proofs.Entries.{sound_has_entries}
 -- A bulk load makes a sound tree.

@@ -157,7 +157,7 @@ pub record Receives (least room g n a : ℕ) (ps new : List Member) : Type 0 whe
 
 pub receives : (far : Far) (least room g n a : ℕ) (ps : List Member) → 0 < least → least ≤ room → g * least ≤ n → Holds room g n ps → a < g → in_group a ps < least →
     Receives least room g n a ps (moved_to a (candidate_from far least a ps 0 None ps) ps)
-receives far least room g n a ps some fits enough holds here short = go (candidate_from far least a ps 0 None ps) refl
+receives far least room g n a ps some is_point enough holds here short = go (candidate_from far least a ps 0 None ps) refl
   where
     go : (best : Option (ℕ × ℕ)) → candidate_from far least a ps 0 None ps ≡ best → Receives least room g n a ps (moved_to a best ps)
     go None e = absurd (
@@ -221,14 +221,14 @@ pub record Filled (least room g n a : ℕ) (ps new : List Member) : Type 0 where
 
 pub received_fills : (far : Far) (least room g n a need : ℕ) (ps : List Member) → 0 < least → least ≤ room → g * least ≤ n → Holds room g n ps → a < g → least ≤ in_group a ps + need → (in_group a ps < least → in_group a ps + need ≡ least) →
     (least ≤ in_group a ps → need ≡ 0) → Filled least room g n a ps (received far least a need ps)
-received_fills far least room g n a zero ps some fits enough holds here up exact done = record { holds = holds; enough = omega arith; others = λ b low h. h }
-received_fills far least room g n a (suc need) ps some fits enough holds here up exact done =
+received_fills far least room g n a zero ps some is_point enough holds here up exact done = record { holds = holds; enough = omega arith; others = λ b low h. h }
+received_fills far least room g n a (suc need) ps some is_point enough holds here up exact done =
     let short : in_group a ps < least = go (nat_lt (in_group a ps) least) refl in
-    let r = receives far least room g n a ps some fits enough holds here short in
+    let r = receives far least room g n a ps some is_point enough holds here short in
     let sum : in_group a ps + suc need ≡ least = exact short in
     let next : List Member = moved_to a (candidate_from far least a ps 0 None ps) ps in
     let rest : Filled least room g n a next (received far least a need next) =
-    received_fills far least room g n a need next some fits enough r.holds here (let o = r.one in omega arith) (λ s. let o = r.one in omega arith) (λ s. let o = r.one in omega arith) in
+    received_fills far least room g n a need next some is_point enough r.holds here (let o = r.one in omega arith) (λ s. let o = r.one in omega arith) (λ s. let o = r.one in omega arith) in
     record { holds = rest.holds; enough = rest.enough; others = λ b low h. rest.others b low (r.others b low h) }
   where
     go : (c : Bool) → nat_lt (in_group a ps) least ≡ c → in_group a ps < least
@@ -238,10 +238,10 @@ received_fills far least room g n a (suc need) ps some fits enough holds here up
 -- all groups are filled
 pub filled_fills : (far : Far) (least room g n a left : ℕ) (ps : List Member) → 0 < least → least ≤ room → g * least ≤ n → Holds room g n ps → a + left ≡ g → ((b : ℕ) → b < a → least ≤ in_group b ps) →
     Holds room g n (filled_from far least a left ps) × ((b : ℕ) → b < g → least ≤ in_group b (filled_from far least a left ps))
-filled_fills far least room g n a zero ps some fits enough holds sum before = (holds, λ b low. before b (omega arith))
-filled_fills far least room g n a (suc left) ps some fits enough holds sum before =
-    let f = received_fills far least room g n a (least - in_group a ps) ps some fits enough holds (omega arith) (omega arith) (λ s. omega arith) (λ s. omega arith) in
-    filled_fills far least room g n (a + 1) left (received far least a (least - in_group a ps) ps) some fits enough f.holds (omega arith) (λ b low. next b low f (b == a) refl)
+filled_fills far least room g n a zero ps some is_point enough holds sum before = (holds, λ b low. before b (omega arith))
+filled_fills far least room g n a (suc left) ps some is_point enough holds sum before =
+    let f = received_fills far least room g n a (least - in_group a ps) ps some is_point enough holds (omega arith) (omega arith) (λ s. omega arith) (λ s. omega arith) in
+    filled_fills far least room g n (a + 1) left (received far least a (least - in_group a ps) ps) some is_point enough f.holds (omega arith) (λ b low. next b low f (b == a) refl)
   where
     next : (b : ℕ) → b < a + 1 → Filled least room g n a ps (received far least a (least - in_group a ps) ps) → (c : Bool) → (b == a) ≡ c → least ≤ in_group b (received far least a (least - in_group a ps) ps)
     next b low f true e = let same : b ≡ a = grind (arith, nat_tests) in subst (λ (j : ℕ). least ≤ in_group j (received far least a (least - in_group a ps) ps)) (sym same) f.enough
@@ -383,7 +383,7 @@ placed_is far room g end k i (s ∷ seeds) counts (suc left) sum up all long few
     cases true e now later = seed_placed room g i left counts (placed_from far room (k + 1) seeds (i + 1) counts left) (omega arith) (now (grind (arith, nat_tests)))
     cases false e now later =
         let above : k + 1 ≤ s = let h = up.0 in grind (arith, nat_tests) in
-        let fits = ascends_fit (s + 1) end seeds up.1 in
+        let is_point = ascends_fit (s + 1) end seeds up.1 in
         member_placed far room g k i left counts (λ cs. placed_from far room (k + 1) (s ∷ seeds) i cs left) long few (omega arith) (later above)
 
 next_seed : (n g i : ℕ) → 0 < g → g ≤ n → i * n / g + 1 ≤ (i + 1) * n / g
@@ -419,7 +419,7 @@ cover g zero some = absurd (omega arith)
 cover g (suc l) some = omega arith
 
 pub groups_are_sized : (far : Far) (least room g n : ℕ) → 0 < least → least ≤ room → 0 < g → g * least ≤ n → n ≤ g * room → AreSized least room g n (grouped far least room g n)
-groups_are_sized far least room g n some fits groups enough spare =
+groups_are_sized far least room g n some is_point groups enough spare =
     let ps : List Member = placed_from far room 0 (seeds_from n g 0 g) 0 (replicate g 1) n in
     let c = cover g least some in
     let ones = ones_total g in
@@ -432,5 +432,5 @@ groups_are_sized far least room g n some fits groups enough spare =
       few = λ a low. let h = p.few a low in let o = ones_at g a low in let t : ◌≡◌ {A = ℕ} (one_if (nat_le 0 a)) 1 = grind (arith, nat_tests) in omega arith;
       seeds = λ a. let h = p.seeds a in let t : ◌≡◌ {A = ℕ} (one_if (nat_le 0 a)) 1 = grind (arith, nat_tests) in omega arith;
     } in
-    let f = filled_fills far least room g n 0 g ps some fits enough holds (omega arith) (λ b low. absurd (omega arith)) in
+    let f = filled_fills far least room g n 0 g ps some is_point enough holds (omega arith) (λ b low. absurd (omega arith)) in
     record { long = f.0.long; low = f.0.low; enough = f.1; few = f.0.few }

@@ -168,7 +168,7 @@ all_take far room g end k i (s ∷ seeds) counts (suc left) sum up long spare =
     cases true e now later = take_seed far room k i counts (placed_from far room (k + 1) seeds (i + 1) counts left) (now (grind (arith, nat_tests)))
     cases false e now later =
         let above : k + 1 ≤ s = let h = up.0 in grind (arith, nat_tests) in
-        let fits = ascends_fit (s + 1) end seeds up.1 in
+        let is_point = ascends_fit (s + 1) end seeds up.1 in
         take_member far room g k counts (λ cs. placed_from far room (k + 1) (s ∷ seeds) i cs left) long (omega arith) (later above)
 
 placed_long : (far : Far) (room k i : ℕ) (seeds counts : List ℕ) (left : ℕ) → length (placed_from far room k seeds i counts left) ≡ left

@@ -82,7 +82,7 @@ built_of l = record { height = height_of l.most (length l.points); tree = built_
 
 -- the tree of the rows `rows` with their tags, by the space's fill
 abbrev pub built : Space → List (List ℕ) → List ℕ → Tall
-built s rows tags = built_of (record { space = s; points = rows; tags = tags; most = most_for s.words; least = least_for s.words })
+built s rows tags = built_of (record { space = s; points = rows; tags = tags; most = most_for s.dimension; least = least_for s.dimension })
 
 -- a bulk load keeps its objects: the tree has as many objects of each kind as there are rows of that kind
 abbrev pub LoadKeepsObjects : Type 0

@@ -50,7 +50,7 @@ abbrev pub rules_for : Space → ℕ → ℕ → ℕ → ℕ → Rules
 rules_for s promote split most least = record { most = most; dist = s.dist; choose = chosen s; split = split_of s promote split least }
 
 abbrev pub rules : Space → ℕ → ℕ → Rules
-rules s promote split = rules_for s promote split (most_for s.words) (least_for s.words)
+rules s promote split = rules_for s promote split (most_for s.dimension) (least_for s.dimension)
 
 -- what a node has grown into: itself, or two halves with their routing points and radii
 pub data Grown (X : Type 0) : Type 0 where

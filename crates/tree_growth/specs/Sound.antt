@@ -9,7 +9,7 @@ use Rattle.tree_growth.specs.Bulk.{built}
 
 -- each inner node of a sound tree has an entry
 abbrev pub SoundHasEntries : Type 0
-SoundHasEntries = (s : Space) → s.words ≤ 64 → (t : Tall) → IsSoundTall s t → HasEntries t.height t.tree
+SoundHasEntries = (s : Space) → s.dimension ≤ 64 → (t : Tall) → IsSoundTall s t → HasEntries t.height t.tree
 
 -- an insertion keeps a tree sound
 abbrev pub InsertionKeepsSound : Type 0
@@ -18,5 +18,5 @@ InsertionKeepsSound =
 
 -- a bulk load of points that fit makes a sound tree
 abbrev pub LoadIsSound : Type 0
-LoadIsSound = (s : Space) → IsSpace s → (rows : List (List ℕ)) (tags : List ℕ) → AllByRecursion (λ p. IsTrue (s.fits p)) rows →
+LoadIsSound = (s : Space) → IsSpace s → (rows : List (List ℕ)) (tags : List ℕ) → AllByRecursion (λ p. IsTrue (s.is_point p)) rows →
     IsSoundTall s (built s rows tags)

@@ -40,10 +40,10 @@ module _ (s : Space) (nodes : Nodes) (t : Live) where
 
   -- the subtrees of a node's entries
   abbrev spots_of : ℕ → List InnerEntry → List Spot
-  spots_of h es = map (λ e. record { named = named_by e; height = h; least = least_for s.words; above = Some e.point }) es
+  spots_of h es = map (λ e. record { named = named_by e; height = h; least = least_for s.dimension; above = Some e.point }) es
 
   spots_sound : (h : ℕ) (above : Option (List ℕ)) (es : List InnerEntry) →
-      AllByRecursion (λ e. IsSoundEntry s above (objects_at nodes h e.child) e × IsSoundAt s nodes h (least_for s.words) (Some e.point) e.child) es →
+      AllByRecursion (λ e. IsSoundEntry s above (objects_at nodes h e.child) e × IsSoundAt s nodes h (least_for s.dimension) (Some e.point) e.child) es →
       AllByRecursion (IsSoundSpot s nodes) (spots_of h es)
   spots_sound h above [] all = tt
   spots_sound h above (e ∷ es) all = (all.0.1, spots_sound h above es all.1)
@@ -70,7 +70,7 @@ module _ (s : Space) (nodes : Nodes) (t : Live) where
       let kids : List ShapeLine = flat_map (λ e. lines_at nodes h (named_by e)) es in
       let joined : left_lines nodes (spots_of h es ++ ps) ≡ kids ++ left_lines nodes ps =
       flat_map-append (λ p. lines_at nodes p.height p.named) (spots_of h es) ps
-      ∙ ap (λ (r : List ShapeLine). r ++ left_lines nodes ps) (flat_map-map (λ p. lines_at nodes p.height p.named) (λ (e : InnerEntry). record { named = named_by e; height = h; least = least_for s.words; above = Some e.point }) es) in
+      ∙ ap (λ (r : List ShapeLine). r ++ left_lines nodes ps) (flat_map-map (λ p. lines_at nodes p.height p.named) (λ (e : InnerEntry). record { named = named_by e; height = h; least = least_for s.dimension; above = Some e.point }) es) in
       let here : lines_at nodes (suc h) n ≡ line_of n node ∷ kids =
       ap (λ (o : Option Node). lines_of n o ++ flat_map (λ e. lines_at nodes h (named_by e)) (inner_entries o)) is
       ∙ ap (λ (m : Node). line_of n node ∷ flat_map (λ e. lines_at nodes h (named_by e)) (inner_entries (Some m))) inner in
@@ -148,8 +148,8 @@ module _ (old : Shelf) (t : Live) where
     same = holds_none old;
     asked = refl;
     reads = omega arith;
-    walk = λ tells. refl;
-    front = λ tells s sound. front_begins s (nodes_of old.read) t sound;
+    walk = λ is_known. refl;
+    front = λ is_known s sound. front_begins s (nodes_of old.read) t sound;
   }
 
   module _ (now : Shelf) (lines : List ShapeLine) (n : Named) (rest : List Named) (before : IsDrawing old now t lines (n ∷ rest)) where
@@ -161,33 +161,33 @@ module _ (old : Shelf) (t : Live) where
           same = holds_both old now new before.same same;
           asked = asked ∙ ap next_count before.asked ∙ count_up_more old.asked (length lines) ∙ ap (count_up old.asked) (sym long);
           reads = (let b = before.reads in omega arith);
-          walk = λ tells.
+          walk = λ is_known.
               subst (λ (c : List Named). DrawsTo (nodes_of old.read) (root_named t.root ∷ []) lines' c) (sym drawn.named)
               (subst (λ (l : List ShapeLine). DrawsTo (nodes_of old.read) (root_named t.root ∷ []) l (map named_by (inner_entries (Some drawn.node)) ++ rest)) (sym drawn.line)
-              (draws_more (nodes_of old.read) (root_named t.root ∷ []) lines n rest drawn.node (told_then old now n.page drawn.node before.same drawn.is tells) (before.walk tells)));
-          front = λ tells s sound.
+              (draws_more (nodes_of old.read) (root_named t.root ∷ []) lines n rest drawn.node (told_then old now n.page drawn.node before.same drawn.is is_known) (before.walk is_known)));
+          front = λ is_known s sound.
               subst (λ (c : List Named). AreFront s (nodes_of old.read) t lines' c) (sym drawn.named)
               (subst (λ (l : List ShapeLine). AreFront s (nodes_of old.read) t l (map named_by (inner_entries (Some drawn.node)) ++ rest)) (sym drawn.line)
-              (front_goes_on s (nodes_of old.read) t lines n rest drawn.node (told_then old now n.page drawn.node before.same drawn.is tells) (before.front tells s sound)));
+              (front_goes_on s (nodes_of old.read) t lines n rest drawn.node (told_then old now n.page drawn.node before.same drawn.is is_known) (before.front is_known s sound)));
         }
 
-    names_next : IsTrue old.tells → Names (nodes_of old.read) t.root (length lines) n.page
-    names_next tells =
-        let way = tour_of (nodes_of old.read) (root_named t.root ∷ []) lines (n ∷ rest) (before.walk tells) in
+    names_next : IsTrue old.is_known → Names (nodes_of old.read) t.root (length lines) n.page
+    names_next is_known =
+        let way = tour_of (nodes_of old.read) (root_named t.root ∷ []) lines (n ∷ rest) (before.walk is_known) in
         record { before = way.0; rest = pages_of rest; walk = way.1; count = way.2 }
 
     pub refused : length lines < t.pages → (new : Shelf) (fault : PageFault) → HasPageCause now new n.page fault → HasTourCause t old new fault
     refused low new fault cause = page_stops t old now new (length lines) n.page before.same low names_next fault cause
 
     pub repeats : length lines ≡ t.pages → HasTourCause t old now (Repeats n.page)
-    repeats all = (before.asked ∙ ap (count_up old.asked) all, λ tells. subst (λ (k : ℕ). Names (nodes_of old.read) t.root k n.page) all (names_next tells))
+    repeats all = (before.asked ∙ ap (count_up old.asked) all, λ is_known. subst (λ (k : ℕ). Names (nodes_of old.read) t.root k n.page) all (names_next is_known))
 
     -- on a sound tree nothing but a passing fault is refused
-    pub has_room : length lines ≡ t.pages → IsTrue old.tells → (s : Space) → IsSoundTree s (nodes_of old.read) t → ⊥
-    has_room all tells s sound = tour_passes s t old now (Repeats n.page) (repeats all) tells sound
+    pub has_room : length lines ≡ t.pages → IsTrue old.is_known → (s : Space) → IsSoundTree s (nodes_of old.read) t → ⊥
+    has_room all is_known s sound = tour_passes s t old now (Repeats n.page) (repeats all) is_known sound
 
-    pub passes : length lines < t.pages → (new : Shelf) (fault : PageFault) → HasPageCause now new n.page fault → IsTrue old.tells → (s : Space) → IsSoundTree s (nodes_of old.read) t → IsPassing fault
-    passes low new fault cause tells s sound = tour_passes s t old new fault (refused low new fault cause) tells sound
+    pub passes : length lines < t.pages → (new : Shelf) (fault : PageFault) → HasPageCause now new n.page fault → IsTrue old.is_known → (s : Space) → IsSoundTree s (nodes_of old.read) t → IsPassing fault
+    passes low new fault cause is_known s sound = tour_passes s t old new fault (refused low new fault cause) is_known sound
 
-  pub ends : (now : Shelf) (lines : List ShapeLine) → IsDrawing old now t lines [] → IsTrue old.tells → (s : Space) → IsSoundTree s (nodes_of old.read) t → lines ≡ tree_lines (nodes_of old.read) t
-  ends now lines drawing tells s sound = front_ends s (nodes_of old.read) t lines (drawing.front tells s sound)
+  pub ends : (now : Shelf) (lines : List ShapeLine) → IsDrawing old now t lines [] → IsTrue old.is_known → (s : Space) → IsSoundTree s (nodes_of old.read) t → lines ≡ tree_lines (nodes_of old.read) t
+  ends now lines drawing is_known s sound = front_ends s (nodes_of old.read) t lines (drawing.front is_known s sound)

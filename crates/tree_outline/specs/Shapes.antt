@@ -85,5 +85,5 @@ pub record IsDrawing (old now : Shelf) (t : Live) (lines : List ShapeLine) (comi
   pub same : HoldsSame old now
   pub asked : now.asked ≡ count_up old.asked (length lines)
   pub reads : now.reads ≤ old.reads + length lines
-  pub walk : IsTrue old.tells → DrawsTo (nodes_of old.read) (root_named t.root ∷ []) lines coming
-  pub front : IsTrue old.tells → (s : Space) → IsSoundTree s (nodes_of old.read) t → AreFront s (nodes_of old.read) t lines coming
+  pub walk : IsTrue old.is_known → DrawsTo (nodes_of old.read) (root_named t.root ∷ []) lines coming
+  pub front : IsTrue old.is_known → (s : Space) → IsSoundTree s (nodes_of old.read) t → AreFront s (nodes_of old.read) t lines coming

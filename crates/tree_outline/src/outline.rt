@@ -140,13 +140,13 @@ pub fn shape_of<P: Pages>(alloc: Global, pages: &mut P, live: &Live) -> Result<S
     ensures asked { CountsUpTo (P.shelf pages.old).asked (P.shelf pages.new).asked live.now.pages }
     ensures reads { (P.shelf pages.new).reads ≤ (P.shelf pages.old).reads + live.now.pages }
     ensures no_fault { OnOk result ((P.shelf pages.new).faults ≡ (P.shelf pages.old).faults) }
-    ensures lines { IfOk result (λ shape. IsTrue (P.shelf pages.old).tells → (s : Space) →
+    ensures lines { IfOk result (λ shape. IsTrue (P.shelf pages.old).is_known → (s : Space) →
         IsSoundTree s (nodes_of (P.shelf pages.old).read) live.now →
         shape.lines ≡ tree_lines (nodes_of (P.shelf pages.old).read) live.now) }
-    ensures walk { IfOk result (λ shape. IsTrue (P.shelf pages.old).tells →
+    ensures walk { IfOk result (λ shape. IsTrue (P.shelf pages.old).is_known →
         DrawsTo (nodes_of (P.shelf pages.old).read) (root_named live.now.root ∷ []) shape.lines []) }
     ensures cause { IfErr result (HasTourCause live.now (P.shelf pages.old) (P.shelf pages.new)) }
-    ensures sound { IfErr result (λ fault. IsTrue (P.shelf pages.old).tells → (s : Space) →
+    ensures sound { IfErr result (λ fault. IsTrue (P.shelf pages.old).is_known → (s : Space) →
         IsSoundTree s (nodes_of (P.shelf pages.old).read) live.now → IsPassing fault) }
 {
     let mut lines = Vec::new(alloc);

@@ -23,17 +23,17 @@ module _ (s : Space) (nodes : Nodes) where
   without_pages zero least above page sound =
       rw sound.1 (filled, all_mapped (IsSoundObject s above) (ObjectFits s) object_of sound.0 (λ o k. k.point_fits) sound.3)
     where
-      filled : IsFilled s.words least (length (map object_of sound.0))
+      filled : IsFilled s.dimension least (length (map object_of sound.0))
       filled = rw length-map sound.2
   without_pages (suc h) least above page sound =
       rw sound.1 (
         filled,
-        all_mapped (λ e. IsSoundEntry s above (objects_at nodes h e.child) e × IsSoundAt s nodes h (least_for s.words) (Some e.point) e.child)
-            (λ b. IsTrue (s.fits b.point) × BranchCovers s h b × IsSoundPlain s h (least_for s.words) b.below) (bare h) sound.0
-            (λ e k. (k.0.point_fits, covers e k.0.covers, without_pages h (least_for s.words) (Some e.point) e.child k.1)) sound.3,
+        all_mapped (λ e. IsSoundEntry s above (objects_at nodes h e.child) e × IsSoundAt s nodes h (least_for s.dimension) (Some e.point) e.child)
+            (λ b. IsTrue (s.is_point b.point) × BranchCovers s h b × IsSoundPlain s h (least_for s.dimension) b.below) (bare h) sound.0
+            (λ e k. (k.0.point_fits, covers e k.0.covers, without_pages h (least_for s.dimension) (Some e.point) e.child k.1)) sound.3,
       )
     where
-      filled : IsFilled s.words least (length (map (bare h) sound.0))
+      filled : IsFilled s.dimension least (length (map (bare h) sound.0))
       filled = rw length-map sound.2
 
       covers : (e : InnerEntry) → AllByRecursion (λ o. s.dist o.point e.point ≤ e.radius) (objects_at nodes h e.child) → BranchCovers s h (bare h e)

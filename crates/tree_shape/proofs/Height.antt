@@ -27,17 +27,17 @@ flat_long f m [] all = omega arith
 flat_long f m (x ∷ xs) all =
     let ih = flat_long f m xs all.1 in let here = all.0 in let long = length-append (f x) (flat_map f xs) in omega arith
 
-module _ (s : Space) (few : s.words ≤ 64) (nodes : Nodes) where
+module _ (s : Space) (few : s.dimension ≤ 64) (nodes : Nodes) where
   pub objects_many : (h least : ℕ) (above : Option (List ℕ)) (page : ℕ) → IsSoundAt s nodes h least above page → least * 3 ^ h ≤ length (objects_at nodes h page)
   objects_many zero least above page sound = rw sound.1 (let e = sound.2.enough in omega arith)
-  objects_many (suc h) least above page sound = rw sound.1 (many sound.0 sound.2.enough (each sound.0 (λ e k. objects_many h (least_for s.words) (Some e.point) e.child k) sound.3))
+  objects_many (suc h) least above page sound = rw sound.1 (many sound.0 sound.2.enough (each sound.0 (λ e k. objects_many h (least_for s.dimension) (Some e.point) e.child k) sound.3))
     where
-      child : (e : InnerEntry) → least_for s.words * 3 ^ h ≤ length (objects_at nodes h e.child) → 3 ^ suc h ≤ length (objects_at nodes h e.child)
-      child e many = let three = mul-le-mul_right {m = 3} {n = least_for s.words} (3 ^ h) (three_at_least s.words few) in let power = pow-succ' 3 h in omega arith
+      child : (e : InnerEntry) → least_for s.dimension * 3 ^ h ≤ length (objects_at nodes h e.child) → 3 ^ suc h ≤ length (objects_at nodes h e.child)
+      child e many = let three = mul-le-mul_right {m = 3} {n = least_for s.dimension} (3 ^ h) (three_at_least s.dimension few) in let power = pow-succ' 3 h in omega arith
 
-      each : (es : List InnerEntry) → ((e : InnerEntry) → IsSoundAt s nodes h (least_for s.words) (Some e.point) e.child → least_for s.words * 3 ^ h ≤ length (objects_at nodes h e.child)) → AllByRecursion (λ e. IsSoundEntry s above (objects_at nodes h e.child) e × IsSoundAt s nodes h (least_for s.words) (Some e.point) e.child) es →
+      each : (es : List InnerEntry) → ((e : InnerEntry) → IsSoundAt s nodes h (least_for s.dimension) (Some e.point) e.child → least_for s.dimension * 3 ^ h ≤ length (objects_at nodes h e.child)) → AllByRecursion (λ e. IsSoundEntry s above (objects_at nodes h e.child) e × IsSoundAt s nodes h (least_for s.dimension) (Some e.point) e.child) es →
           AllByRecursion (λ e. 3 ^ suc h ≤ length (objects_at nodes h e.child)) es
-      each es ih all = all_weaker (λ e. IsSoundEntry s above (objects_at nodes h e.child) e × IsSoundAt s nodes h (least_for s.words) (Some e.point) e.child)
+      each es ih all = all_weaker (λ e. IsSoundEntry s above (objects_at nodes h e.child) e × IsSoundAt s nodes h (least_for s.dimension) (Some e.point) e.child)
           (λ e. 3 ^ suc h ≤ length (objects_at nodes h e.child)) es (λ e k. child e (ih e k.1)) all
 
       many : (es : List InnerEntry) → least ≤ length es → AllByRecursion (λ e. 3 ^ suc h ≤ length (objects_at nodes h e.child)) es →
@@ -56,7 +56,7 @@ power_rises (suc n) k h same =
 pub not_higher : (h : ℕ) → 15 ≤ h → 2 ^ 24 < 2 * 3 ^ h
 not_higher h high = let r = power_rises (h - 15) 15 h (omega arith) in omega arith
 
-pub height_is_small : (s : Space) (nodes : Nodes) (t : Live) → s.words ≤ 64 → IsSoundTree s nodes t →
+pub height_is_small : (s : Space) (nodes : Nodes) (t : Live) → s.dimension ≤ 64 → IsSoundTree s nodes t →
     (1 ≤ t.height → 2 * 3 ^ t.height ≤ t.count) × (t.count ≤ 2 ^ 24 → t.height ≤ 14)
 height_is_small s nodes t few sound = (enough, low)
   where

@@ -11,11 +11,11 @@ use Rattle.tree_shape.specs.Fill.{least_for}
 use Rattle.tree_shape.specs.Tree.{Nodes, IsSoundAt, IsSoundObject, IsSoundEntry, objects_at, pages_at, leaf_entries, inner_entries, Covers}
 
 abbrev pub Fits : Space → LeafEntry → Type 0
-Fits s o = IsTrue (s.fits o.point)
+Fits s o = IsTrue (s.is_point o.point)
 
 -- an entry of an inner node, in a sound tree
 abbrev pub SoundSubtree : Space → Nodes → ℕ → Option (List ℕ) → InnerEntry → Type 0
-SoundSubtree s nodes h above e = IsSoundEntry s above (objects_at nodes h e.child) e × IsSoundAt s nodes h (least_for s.words) (Some e.point) e.child
+SoundSubtree s nodes h above e = IsSoundEntry s above (objects_at nodes h e.child) e × IsSoundAt s nodes h (least_for s.dimension) (Some e.point) e.child
 
 pub objects_fit : (s : Space) (nodes : Nodes) (h least : ℕ) (above : Option (List ℕ)) (page : ℕ) → IsSoundAt s nodes h least above page →
     AllByRecursion (Fits s) (objects_at nodes h page)
@@ -24,7 +24,7 @@ objects_fit s nodes zero least above page sound =
 objects_fit s nodes (suc h) least above page sound =
     rw sound.1 (all_flat_map (Fits s) (λ e. objects_at nodes h e.child) sound.0
     (all_weaker (SoundSubtree s nodes h above) (λ e. AllByRecursion (Fits s) (objects_at nodes h e.child)) sound.0
-    (λ e k. objects_fit s nodes h (least_for s.words) (Some e.point) e.child k.1) sound.3))
+    (λ e k. objects_fit s nodes h (least_for s.dimension) (Some e.point) e.child k.1) sound.3))
 
 -- two maps that agree on a list's elements
 pub flat_map_agree : {X Y : Type 0} (f g : X → List Y) (xs : List X) → ((x : X) → IsIn x xs → f x ≡ g x) → flat_map f xs ≡ flat_map g xs
@@ -77,7 +77,7 @@ module _ (old new : Nodes) where
             parent_is = w.0.parent_is;
             covers = subst (Covers s e) (sym (objects_stay h e.child (agrees e k))) w.0.covers;
           },
-          still_sound s h e.child (agrees e k) (least_for s.words) (Some e.point) w.1,
+          still_sound s h e.child (agrees e k) (least_for s.dimension) (Some e.point) w.1,
         )) sound.3,
   )
     where

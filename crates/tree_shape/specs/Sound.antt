@@ -8,7 +8,7 @@ use Rattle.tree_shape.specs.Plain.{Object, Branch, Plain, Tall, objects_in, tree
 
 -- a point that fits
 abbrev pub ObjectFits : Space → Object → Type 0
-ObjectFits s o = IsTrue (s.fits o.point)
+ObjectFits s o = IsTrue (s.is_point o.point)
 
 -- each object below lies within the radius
 abbrev pub BranchCovers : (s : Space) (h : ℕ) → Branch (Plain h) → Type 0
@@ -16,9 +16,9 @@ BranchCovers s h b = AllByRecursion (λ o. s.dist o.point b.point ≤ b.radius) 
 
 -- the tree, with at least `least` entries: fill, points that fit and covering
 abbrev pub IsSoundPlain : Space → (h : ℕ) → ℕ → Plain h → Type 0
-IsSoundPlain s zero least os = IsFilled s.words least (length os) × AllByRecursion (ObjectFits s) os
+IsSoundPlain s zero least os = IsFilled s.dimension least (length os) × AllByRecursion (ObjectFits s) os
 IsSoundPlain s (suc h) least bs =
-    IsFilled s.words least (length bs) × AllByRecursion (λ b. IsTrue (s.fits b.point) × BranchCovers s h b × IsSoundPlain s h (least_for s.words) b.below) bs
+    IsFilled s.dimension least (length bs) × AllByRecursion (λ b. IsTrue (s.is_point b.point) × BranchCovers s h b × IsSoundPlain s h (least_for s.dimension) b.below) bs
 
 -- the whole tree
 abbrev pub IsSoundTall : Space → Tall → Type 0

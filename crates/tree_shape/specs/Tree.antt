@@ -49,22 +49,22 @@ Covers s e os = AllByRecursion (λ o. s.dist o.point e.point ≤ e.radius) os
 
 -- a leaf entry under the routing point `above`
 pub record IsSoundObject (s : Space) (above : Option (List ℕ)) (o : LeafEntry) : Type 0 where
-  pub point_fits : IsTrue (s.fits o.point)
+  pub point_fits : IsTrue (s.is_point o.point)
   pub parent_is : o.parent ≡ parent_distance s above o.point
 
 -- an inner entry under the routing point `above`, with the objects below it
 pub record IsSoundEntry (s : Space) (above : Option (List ℕ)) (os : List LeafEntry) (e : InnerEntry) : Type 0 where
-  pub point_fits : IsTrue (s.fits e.point)
+  pub point_fits : IsTrue (s.is_point e.point)
   pub parent_is : e.parent ≡ parent_distance s above e.point
   pub covers : Covers s e os
 
 -- the subtree of a page, at a level, with at least `least` entries, under the routing point `above`
 abbrev pub IsSoundAt : Space → Nodes → ℕ → ℕ → Option (List ℕ) → ℕ → Type 0
 IsSoundAt s nodes zero least above page =
-    (es : List LeafEntry) × (nodes page ≡ Some (Leaf es)) × IsFilled s.words least (length es) × AllByRecursion (IsSoundObject s above) es
+    (es : List LeafEntry) × (nodes page ≡ Some (Leaf es)) × IsFilled s.dimension least (length es) × AllByRecursion (IsSoundObject s above) es
 IsSoundAt s nodes (suc h) least above page =
-    (es : List InnerEntry) × (nodes page ≡ Some (Inner (suc h) es)) × IsFilled s.words least (length es)
-    × AllByRecursion (λ e. IsSoundEntry s above (objects_at nodes h e.child) e × IsSoundAt s nodes h (least_for s.words) (Some e.point) e.child) es
+    (es : List InnerEntry) × (nodes page ≡ Some (Inner (suc h) es)) × IsFilled s.dimension least (length es)
+    × AllByRecursion (λ e. IsSoundEntry s above (objects_at nodes h e.child) e × IsSoundAt s nodes h (least_for s.dimension) (Some e.point) e.child) es
 
 -- the objects of the live tree, in pre-order
 abbrev pub objects : Nodes → Live → List LeafEntry
@@ -75,7 +75,7 @@ abbrev pub IsNodePage : Live → ℕ → Type 0
 IsNodePage t page = (3 ≤ page) × (page < t.pages)
 
 -- The live tree is sound. Every page that is reached may hold a node and is reached once. Its node has the level of its depth and a
--- lawful number of entries. Every point is in the space. Every stored distance is the one to the routing point above. Every object
+-- valid number of entries. Every point is in the space. Every stored distance is the one to the routing point above. Every object
 -- lies within the radius of each routing entry above it. The ids are 0 to count - 1, each once.
 pub record IsSoundTree (s : Space) (nodes : Nodes) (t : Live) : Type 0 where
   pub parts : IsSoundAt s nodes t.height (root_least t.height) None t.root

@@ -33,11 +33,11 @@ gap_is = record {
 
 -- what a point is
 pub vector_long : (dim : ℕ) (p : List ℕ) → IsTrue (is_vector dim p) → length p ≡ dim
-vector_long dim p fits = let parts = and_parts _ _ fits in eqb-true (length p) dim parts.0
+vector_long dim p is_point = let parts = and_parts _ _ is_point in eqb-true (length p) dim parts.0
 
 pub vector_small : (dim : ℕ) (p : List ℕ) → IsTrue (is_vector dim p) → All (λ x. x < 2 ^ 32) p
-vector_small dim p fits =
-    let parts = and_parts _ _ fits in
+vector_small dim p is_point =
+    let parts = and_parts _ _ is_point in
     λ k d within. ltb-true _ _ (AllPass-from_list_all (λ x. nat_lt x (2 ^ 32)) p parts.1 k d within)
 
 max_bounded : (a b : List ℕ) → list_all (λ x. nat_lt x (2 ^ 32)) a ≡ true → list_all (λ x. nat_lt x (2 ^ 32)) b ≡ true → max_distance a b ≤ 2 ^ 32

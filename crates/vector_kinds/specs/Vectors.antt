@@ -35,4 +35,4 @@ vector_distance kind a b = if kind == 1 then hamming_distance a b else (if kind 
 
 -- the space of the points with this many coordinates under the distance of this number
 abbrev pub vector_space : ℕ → ℕ → Space
-vector_space kind dim = record { words = dim; fits = is_vector dim; dist = vector_distance kind }
+vector_space kind dim = record { dimension = dim; is_point = is_vector dim; dist = vector_distance kind }

@@ -29,11 +29,11 @@ impl Metric for Max {
 
     ghost axioms = { λ m. max_axioms m.dim m.some m.few };
 
-    fn words(&self) -> usize {
+    fn dimension(&self) -> usize {
         usize::from(self.dim)
     }
 
-    fn fits(&self, p: &[u32]) -> bool {
+    fn is_point(&self, p: &[u32]) -> bool {
         differences::has_places(p, self.dim)
     }
 

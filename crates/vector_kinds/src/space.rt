@@ -86,11 +86,11 @@ impl Metric for Space {
 
     ghost axioms = { kind_axioms };
 
-    fn words(&self) -> usize {
+    fn dimension(&self) -> usize {
         usize::from(self.dim())
     }
 
-    fn fits(&self, p: &[u32]) -> bool {
+    fn is_point(&self, p: &[u32]) -> bool {
         differences::has_places(p, self.dim())
     }
 

@@ -9,7 +9,7 @@ use Rattle.log_model.specs.declared.logs.Log.{Log}
 use Rattle.tree_shape.specs.declared.live.Live.{Live}
 use Rattle.image_answers.specs.declared.outcome.Outcome.{Outcome}
 use Rattle.image_answers.specs.declared.outcome.Outcome.TheVariants as outcome
-use Rattle.image_answers.specs.Outcomes.{as_wanted, without_tags, CanBeShown, IsGivenOf, IsLawful, IsLogged}
+use Rattle.image_answers.specs.Outcomes.{as_wanted, without_tags, CanBeShown, IsGivenOf, IsValid, IsLogged}
 use Rattle.batch_run.specs.declared.jobs.piles.Mark.{Mark}
 use Rattle.batch_run.specs.declared.jobs.piles.Mark.TheVariants as mark
 use Rattle.batch_run.specs.declared.jobs.piles.Pile.{Pile}
@@ -41,11 +41,11 @@ same_logged (reply.Closed number) log is = is
 
 -- ---- what is given can be shown, and shows the whole outcome
 
-can_be_shown : (show : Bool) (o : Outcome) → IsLawful o → CanBeShown show (as_wanted show o)
-can_be_shown true (outcome.Done r log) lawful = (λ e. lawful.0, lawful.1)
-can_be_shown false (outcome.Done r log) lawful = (λ e. absurd (cc), same_logged r log lawful.1)
-can_be_shown true (outcome.Damaged fault) lawful = lawful
-can_be_shown false (outcome.Damaged fault) lawful = lawful
+can_be_shown : (show : Bool) (o : Outcome) → IsValid o → CanBeShown show (as_wanted show o)
+can_be_shown true (outcome.Done r log) valid = (λ e. valid.0, valid.1)
+can_be_shown false (outcome.Done r log) valid = (λ e. absurd (cc), same_logged r log valid.1)
+can_be_shown true (outcome.Damaged fault) valid = valid
+can_be_shown false (outcome.Damaged fault) valid = valid
 
 shows_whole : (show : Bool) (o : Outcome) (pile : Pile) (m : Mark) → IsMarked show (as_wanted show o) pile m → IsMarked show o pile m
 shows_whole true o pile m is = is
@@ -56,7 +56,7 @@ shows_whole false (outcome.Damaged fault) pile (mark.Damaged named) is = is
 
 module _ (s : Space) (live : Live) (image : List ℕ) (c : Command) (show : Bool) (given : Outcome) (is : IsGivenOf show s live image c given) where
   pub given_can : CanBeShown show given
-  given_can = subst (CanBeShown show) (sym is.2) (can_be_shown show is.0 is.1.lawful)
+  given_can = subst (CanBeShown show) (sym is.2) (can_be_shown show is.0 is.1.valid)
 
   pub given_more : (pile0 pile1 : Pile) → HasMore show given pile0 pile1 → HasMoreFor s live image show c pile0 pile1
   given_more pile0 pile1 more = (

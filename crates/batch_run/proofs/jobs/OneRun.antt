@@ -25,8 +25,8 @@ still setting state (command.TagLoad tags rows) = refl
 still setting state (command.Cursor q) = refl
 still setting state (command.Next cursor n) = refl
 still setting state (command.Close cursor) = refl
-still setting state (command.Range r q) = either_way (setting.space.fits q) _ state
-still setting state (command.Nearest k q) = either_way (setting.space.fits q) _ state
+still setting state (command.Range r q) = either_way (setting.space.is_point q) _ state
+still setting state (command.Nearest k q) = either_way (setting.space.is_point q) _ state
 still setting state command.Count = refl
 still setting state (command.Bad why) = refl
 

@@ -42,19 +42,19 @@ module _ (show : Bool) (bytes : List ℕ) (disk0 : DiskState) (out0 out1 log : S
   Failed = Rose out0.faults out1.faults
 
   pub input_line : status ≡ 3 → Tells out0 out1 (codes "fault input\n") → RunsScript show bytes disk0 out0 out1 log log status
-  input_line is told tells head live sound = unread (space_of head) live disk0.bytes show bytes out0 log out1 (codes "fault input\n") status told
+  input_line is told is_known head live sound = unread (space_of head) live disk0.bytes show bytes out0 log out1 (codes "fault input\n") status told
       (λ rest line. input_ends Failed _ (script head.dim bytes) rest status is line)
 
   pub disk_line : status ≡ 5 → Tells out0 out1 (codes "fault disk\n") → RunsScript show bytes disk0 out0 out1 log log status
-  disk_line is told tells head live sound = unread (space_of head) live disk0.bytes show bytes out0 log out1 (codes "fault disk\n") status told
+  disk_line is told is_known head live sound = unread (space_of head) live disk0.bytes show bytes out0 log out1 (codes "fault disk\n") status told
       (λ rest line. disk_ends Failed _ (script head.dim bytes) rest [] status is line)
 
   pub long_line : status ≡ 7 → Tells out0 out1 (codes "fault long\n") → RunsScript show bytes disk0 out0 out1 log log status
-  long_line is told tells head live sound = unread (space_of head) live disk0.bytes show bytes out0 log out1 (codes "fault long\n") status told
+  long_line is told is_known head live sound = unread (space_of head) live disk0.bytes show bytes out0 log out1 (codes "fault long\n") status told
       (λ rest line. long_ends Failed _ (script head.dim bytes) rest status is line)
 
   pub memory_line : status ≡ 8 → Tells out0 out1 (codes "fault memory\n") → RunsScript show bytes disk0 out0 out1 log log status
-  memory_line is told tells head live sound = unread (space_of head) live disk0.bytes show bytes out0 log out1 (codes "fault memory\n") status told
+  memory_line is told is_known head live sound = unread (space_of head) live disk0.bytes show bytes out0 log out1 (codes "fault memory\n") status told
       (λ rest line. memory_ends Failed _ (script head.dim bytes) rest [] status is line)
 
 -- the index was not opened
@@ -71,11 +71,11 @@ refused faults one show bytes disk0 disk1 out0 out1 log status same refuses = el
     damaged = λ e. absurd (omega arith);
     lines = disk_told status out0 out1 five (line_alone out0 out1 (codes "fault disk\n") (refuses.disk five).1);
     index = λ these. absurd (unfinished status 5 five (omega arith) (omega arith) these);
-    large = λ tells is these. not_these status 5 five (omega arith) (omega arith) (omega arith) these;
+    large = λ is_known is these. not_these status 5 five (omega arith) (omega arith) (omega arith) these;
     statuses = inr (inr (inl five));
   }
   | inr six ↦ record {
-    runs = λ tells head live sound. (let named = refuses.not_index six in absurd (no_index_unsound faults one disk0.bytes named.0 (named.2 tells) head live sound));
+    runs = λ is_known head live sound. (let named = refuses.not_index six in absurd (no_index_unsound faults one disk0.bytes named.0 (named.2 is_known) head live sound));
     unchanged = same;
     output = λ e. absurd (omega arith);
     disk = λ e. absurd (omega arith);
@@ -84,13 +84,13 @@ refused faults one show bytes disk0 disk1 out0 out1 log status same refuses = el
     damaged = λ e. absurd (omega arith);
     lines = none_told status out0 out1 (λ e. omega arith) (λ e. omega arith) (λ e. omega arith) (λ e. omega arith);
     index = λ these. absurd (unfinished status 6 six (omega arith) (omega arith) these);
-    large = λ tells is these. not_these status 6 six (omega arith) (omega arith) (omega arith) these;
+    large = λ is_known is these. not_these status 6 six (omega arith) (omega arith) (omega arith) these;
     statuses = inr (inr (inr (inl six)));
   }
 ]
 
 module _ (show : Bool) (bytes : List ℕ) (disk0 disk1 disk2 : DiskState) (head : Head) (live : Live) (same : IsUnchanged disk0 disk1) (later : disk0.faults ≤ disk1.faults)
-    (opens : IsTrue disk0.tells → OpensTo disk0.bytes head live) (version : head.version ≡ 2) (still : IsUnchanged disk1 disk2) where
+    (opens : IsTrue disk0.is_known → OpensTo disk0.bytes head live) (version : head.version ≡ 2) (still : IsUnchanged disk1 disk2) where
   -- the index was not read into memory
   pub unread_image : (out0 out1 log : SinkState) (status : ℕ) (why : ImageFault) → HasImageCause live.pages disk1.faults disk2.faults why →
       (status ≡ 7 → (why ≡ fault.TooLong) × Tells out0 out1 (codes "fault long\n")) → (status ≡ 5 → (why ≡ fault.Disk) × Tells out0 out1 (codes "fault disk\n")) →
@@ -105,7 +105,7 @@ module _ (show : Bool) (bytes : List ℕ) (disk0 disk1 disk2 : DiskState) (head 
     damaged = λ e. absurd (omega arith);
     lines = disk_told status out0 out1 five (line_alone out0 out1 (codes "fault disk\n") (disk five).1);
     index = λ these. absurd (unfinished status 5 five (omega arith) (omega arith) these);
-    large = λ tells is these. not_these status 5 five (omega arith) (omega arith) (omega arith) these;
+    large = λ is_known is these. not_these status 5 five (omega arith) (omega arith) (omega arith) these;
     statuses = inr (inr (inl five));
   }
   unread_image out0 out1 log status why cause long disk memory (inr (inl seven)) = record {
@@ -114,11 +114,11 @@ module _ (show : Bool) (bytes : List ℕ) (disk0 disk1 disk2 : DiskState) (head 
     output = λ e. absurd (omega arith);
     disk = λ e. absurd (omega arith);
     not_index = λ e. absurd (omega arith);
-    long = λ e tells. (head, live, opens tells, subst (HasImageCause live.pages disk1.faults disk2.faults) (long seven).0 cause);
+    long = λ e is_known. (head, live, opens is_known, subst (HasImageCause live.pages disk1.faults disk2.faults) (long seven).0 cause);
     damaged = λ e. absurd (omega arith);
     lines = long_told status out0 out1 seven (line_alone out0 out1 (codes "fault long\n") (long seven).1);
     index = λ these. absurd (unfinished status 7 seven (omega arith) (omega arith) these);
-    large = λ tells is these. not_these status 7 seven (omega arith) (omega arith) (omega arith) these;
+    large = λ is_known is these. not_these status 7 seven (omega arith) (omega arith) (omega arith) these;
     statuses = inr (inr (inr (inr (inl seven))));
   }
   unread_image out0 out1 log status why cause long disk memory (inr (inr eight)) = record {
@@ -131,28 +131,28 @@ module _ (show : Bool) (bytes : List ℕ) (disk0 disk1 disk2 : DiskState) (head 
     damaged = λ e. absurd (omega arith);
     lines = memory_told status out0 out1 eight (line_alone out0 out1 (codes "fault memory\n") (memory eight));
     index = λ these. absurd (unfinished status 8 eight (omega arith) (omega arith) these);
-    large = λ tells is these. not_these status 8 eight (omega arith) (omega arith) (omega arith) these;
+    large = λ is_known is these. not_these status 8 eight (omega arith) (omega arith) (omega arith) these;
     statuses = inr (inr (inr (inr (inr (inl eight)))));
   }
 
   -- the index was read into memory
-  module _ (one : OneLiveSlot) (holds : ImagesHoldTheFile) (image : List ℕ) (few : live.pages ≤ 262144) (is_image : IsTrue disk1.tells → IsImageOf live.pages disk1.bytes image)
+  module _ (one : OneLiveSlot) (holds : ImagesHoldTheFile) (image : List ℕ) (few : live.pages ≤ 262144) (is_image : IsTrue disk1.is_known → IsImageOf live.pages disk1.bytes image)
       (out0 out1 log0 log1 : SinkState) (status : ℕ) where
-    read_is : IsTrue disk0.tells → reading head.dim live.pages image ≡ reading head.dim live.pages disk0.bytes
-    read_is tells = holds head.dim live.pages disk0.bytes image (subst (λ (file : List ℕ). IsImageOf live.pages file image) same.same_bytes (is_image (subst IsTrue (sym same.same_tells) tells)))
+    read_is : IsTrue disk0.is_known → reading head.dim live.pages image ≡ reading head.dim live.pages disk0.bytes
+    read_is is_known = holds head.dim live.pages disk0.bytes image (subst (λ (file : List ℕ). IsImageOf live.pages file image) same.same_bytes (is_image (subst IsTrue (sym same.same_known) is_known)))
 
-    held_is : IsTrue disk0.tells → held_in head.dim live image ≡ held_in head.dim live disk0.bytes
-    held_is tells = λ i. record { nodes = nodes_of (read_is tells i); live = live }
+    held_is : IsTrue disk0.is_known → held_in head.dim live image ≡ held_in head.dim live disk0.bytes
+    held_is is_known = λ i. record { nodes = nodes_of (read_is is_known i); live = live }
 
     pub ran : (IsSoundTree (space_of head) (nodes_in head.dim live image) live → RunsOn show bytes (space_of head) (held_in head.dim live image) out0 out1 log0 log1 status) →
         HasFinished (space_of head) live image out0 out1 log0 log1 status → HasOpened show bytes disk0 disk2 out0 out1 log0 log1 status
     ran runs finished = record {
-      runs = λ tells other_head other_live sound.
-          let slot = one disk0.bytes other_head head other_live live sound.opens (opens tells) in
+      runs = λ is_known other_head other_live sound.
+          let slot = one disk0.bytes other_head head other_live live sound.opens (opens is_known) in
           subst (λ (l : Live). RunsOn show bytes (space_of other_head) (held_in other_head.dim l disk0.bytes) out0 out1 log0 log1 status) (sym slot.1)
           (subst (λ (h : Head). RunsOn show bytes (space_of h) (held_in h.dim live disk0.bytes) out0 out1 log0 log1 status) (sym slot.0)
-          (subst (λ (held : Held). RunsOn show bytes (space_of head) held out0 out1 log0 log1 status) (held_is tells)
-          (runs (subst (λ (read : Read). IsSoundTree (space_of head) (nodes_of read) live) (sym (read_is tells)) (sound_here tells other_head other_live sound slot.0 slot.1)))));
+          (subst (λ (held : Held). RunsOn show bytes (space_of head) held out0 out1 log0 log1 status) (held_is is_known)
+          (runs (subst (λ (read : Read). IsSoundTree (space_of head) (nodes_of read) live) (sym (read_is is_known)) (sound_here is_known other_head other_live sound slot.0 slot.1)))));
       unchanged = then_unchanged disk0 disk1 disk2 same still;
       output = finished.output;
       disk = λ e. absurd (none_of e);
@@ -161,22 +161,22 @@ module _ (show : Bool) (bytes : List ℕ) (disk0 disk1 disk2 : DiskState) (head 
       damaged = λ e. (let d = finished.damaged e in (
         d.0,
         d.1,
-        λ tells. record {
+        λ is_known. record {
           head = head;
           live = live;
-          opens = opens tells;
+          opens = opens is_known;
           asked = d.2.0;
-          damage = subst (λ (read : Read). HasDamage (space_of head) live read d.2.0 d.0) (read_is tells) d.2.1;
+          damage = subst (λ (read : Read). HasDamage (space_of head) live read d.2.0 d.0) (read_is is_known) d.2.1;
         },
       ));
       lines = record { input = λ e. absurd (none_of_three e); disk = λ e. absurd (none_of e); long = λ e. absurd (none_of_seven e); memory = finished.memory };
-      index = λ these tells. (head, live, opens tells, version);
-      large = λ tells is these. (let slot = one disk0.bytes is.0 head is.1 live is.2 (opens tells) in absurd (omega (arith, few, is.3, ap (λ (l : Live). l.pages) slot.1)));
+      index = λ these is_known. (head, live, opens is_known, version);
+      large = λ is_known is these. (let slot = one disk0.bytes is.0 head is.1 live is.2 (opens is_known) in absurd (omega (arith, few, is.3, ap (λ (l : Live). l.pages) slot.1)));
       statuses = among finished.statuses;
     }
       where
-        sound_here : IsTrue disk0.tells → (h : Head) (l : Live) → IsSoundFile (space_of h) h l disk0.bytes → h ≡ head → l ≡ live → IsSoundTree (space_of head) (nodes_in head.dim live disk0.bytes) live
-        sound_here tells h l sound head_is live_is =
+        sound_here : IsTrue disk0.is_known → (h : Head) (l : Live) → IsSoundFile (space_of h) h l disk0.bytes → h ≡ head → l ≡ live → IsSoundTree (space_of head) (nodes_in head.dim live disk0.bytes) live
+        sound_here is_known h l sound head_is live_is =
             subst (λ (x : Live). IsSoundTree (space_of head) (nodes_in head.dim x disk0.bytes) x) live_is (subst (λ (x : Head). IsSoundTree (space_of x) (nodes_in x.dim l disk0.bytes) l) head_is sound.tree)
 
         none_of : status ≡ 5 → ⊥

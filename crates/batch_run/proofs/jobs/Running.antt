@@ -46,10 +46,10 @@ zipped_split {A} R (x ∷ xs) (b ∷ first) second zipped =
 
 module _ (s : Space) (live : Live) (image : List ℕ) (show : Bool) where
   abbrev pub held : Held
-  held = held_in s.words live image
+  held = held_in s.dimension live image
 
   abbrev pub Sound : Type 0
-  Sound = IsSoundTree s (nodes_in s.words live image) live
+  Sound = IsSoundTree s (nodes_in s.dimension live image) live
 
   abbrev pub IsSaidBy : Command → Prepared → Type 0
   IsSaidBy c p = (turn : Answered) × (turn.command ≡ c) × IsTurn s held turn × (text show turn.reply ≡ said p) × (framed (if_any turn.log) ≡ logged p)
@@ -90,12 +90,12 @@ module _ (s : Space) (live : Live) (image : List ℕ) (show : Bool) where
   module _ (bytes : List ℕ) (out0 log0 : SinkState) where
     -- the line of a fault is all that was put
     pub unread : (out1 : SinkState) (line : List ℕ) (status : ℕ) → Tells out0 out1 line →
-        ((rest : List ℕ) → IsTold (Rose out0.faults out1.faults) rest line → Ends (Rose out0.faults out1.faults) (IsCutShort s show held (script s.words bytes)) status [] (script s.words bytes) rest []) → RunsOn show bytes s held out0 out1 log0 log0 status
+        ((rest : List ℕ) → IsTold (Rose out0.faults out1.faults) rest line → Ends (Rose out0.faults out1.faults) (IsCutShort s show held (script s.dimension bytes)) status [] (script s.dimension bytes) rest []) → RunsOn show bytes s held out0 out1 log0 log0 status
     unread out1 line status told ends =
         let part = told_behind out0.written out0.written out1.written (Rose out0.faults out1.faults) [] line (Appends-nil out0.written) told in
         record {
           turns = [];
-          more = script s.words bytes;
+          more = script s.dimension bytes;
           rest = part.0;
           log_rest = [];
           whole = refl;
@@ -106,7 +106,7 @@ module _ (s : Space) (live : Live) (image : List ℕ) (show : Bool) where
           logged = Appends-nil log0.written;
         }
 
-    module _ (sound : Sound) (commands : List Command) (all : List Prepared) (script_is : commands ≡ script s.words bytes) (zipped : AllZip (IsPreparedFor s live image show) commands all) (out1 log1 : SinkState) where
+    module _ (sound : Sound) (commands : List Command) (all : List Prepared) (script_is : commands ≡ script s.dimension bytes) (zipped : AllZip (IsPreparedFor s live image show) commands all) (out1 log1 : SinkState) where
       module _ (result : Result (Unit {0}) BatchStop) (put : ArePut all out0 out1 log0 log1 result) where
         pub parts : (front : List Command) × (more : List Command) × (commands ≡ front ++ more) × AllZip (IsPreparedFor s live image show) front put.put × AllZip (IsPreparedFor s live image show) more put.left
         parts = zipped_split (IsPreparedFor s live image show) commands put.put put.left (subst (λ (ps : List Prepared). AllZip (IsPreparedFor s live image show) commands ps) put.whole zipped)
@@ -114,7 +114,7 @@ module _ (s : Space) (live : Live) (image : List ℕ) (show : Bool) where
         pub done : HasTurns parts.0 put.put
         done = turns_of parts.0 put.put sound parts.3
 
-        whole : script s.words bytes ≡ commands_of done.turns ++ parts.1
+        whole : script s.dimension bytes ≡ commands_of done.turns ++ parts.1
         whole = sym script_is ∙ parts.2 ∙ ap (λ (cs : List Command). cs ++ parts.1) (sym done.commands)
 
         -- with nothing behind it, or what was put of one more
@@ -198,22 +198,22 @@ module _ (s : Space) (live : Live) (image : List ℕ) (show : Bool) where
 
   -- ---- why it ended, on any image
 
-  damage_in : (c : Command) (a : Option Query) (fault : PageFault) → IsAnswered s live image c a (outcome.Damaged fault) → (asked : Query) × HasDamage s live (reading s.words live.pages image) asked fault
+  damage_in : (c : Command) (a : Option Query) (fault : PageFault) → IsAnswered s live image c a (outcome.Damaged fault) → (asked : Query) × HasDamage s live (reading s.dimension live.pages image) asked fault
   damage_in c None fault told = absurd told
   damage_in c (Some asked) fault told = (asked, told)
 
-  damage_by : (c : Command) (o : Outcome) (fault : PageFault) → IsOutcomeOf s live image c o → IsPrepared show o (prepared.Damaged fault) → (asked : Query) × HasDamage s live (reading s.words live.pages image) asked fault
+  damage_by : (c : Command) (o : Outcome) (fault : PageFault) → IsOutcomeOf s live image c o → IsPrepared show o (prepared.Damaged fault) → (asked : Query) × HasDamage s live (reading s.dimension live.pages image) asked fault
   damage_by c (outcome.Done r log) fault is ready = absurd ready
   damage_by c (outcome.Damaged named) fault is ready = damage_in c (answered_query s c) fault (subst (λ (f : PageFault). IsAnswered s live image c (answered_query s c) (outcome.Damaged f)) (sym ready) is.told)
 
   damage_of : (cs : List Command) (ps put left others : List Prepared) (fault : PageFault) → AllZip (IsPreparedFor s live image show) cs ps → ps ≡ put ++ left → left ≡ prepared.Damaged fault ∷ others →
-      (asked : Query) × HasDamage s live (reading s.words live.pages image) asked fault
+      (asked : Query) × HasDamage s live (reading s.dimension live.pages image) asked fault
   damage_of cs ps put left others fault zipped whole is =
       let p = zipped_split (IsPreparedFor s live image show) cs put (prepared.Damaged fault ∷ others)
       (subst (λ (l : List Prepared). AllZip (IsPreparedFor s live image show) cs (put ++ l)) is (subst (λ (l : List Prepared). AllZip (IsPreparedFor s live image show) cs l) whole zipped)) in
       at p.1 p.4
     where
-      at : (ds : List Command) → AllZip (IsPreparedFor s live image show) ds (prepared.Damaged fault ∷ others) → (asked : Query) × HasDamage s live (reading s.words live.pages image) asked fault
+      at : (ds : List Command) → AllZip (IsPreparedFor s live image show) ds (prepared.Damaged fault ∷ others) → (asked : Query) × HasDamage s live (reading s.dimension live.pages image) asked fault
       at [] zip = absurd zip
       at (c ∷ ds) zip = damage_by c zip.0.0 fault zip.0.1 zip.0.2
 

@@ -12,7 +12,7 @@ use Rattle.job_files.proofs.Published.{always, read_whole, weaker}
 use Rattle.batch_run.proofs.jobs.Opened.{input_line, long_line, memory_line, unfinished, not_these}
 
 unchanged_self : (disk : DiskState) → IsUnchanged disk disk
-unchanged_self disk = record { same_tells = refl; same_bytes = refl; same_images = λ image. (λ left. left, λ left. left); time = started disk (MayLeave disk) (λ image left. left) }
+unchanged_self disk = record { same_known = refl; same_bytes = refl; same_images = λ image. (λ left. left, λ left. left); time = started disk (MayLeave disk) (λ image left. left) }
 
 pub whole : (show : Bool) (left0 left1 : Option (List ℕ)) (bytes : List ℕ) (disk0 disk1 : DiskState) (out0 out1 log0 log1 : SinkState) (status : ℕ) → Consumes left0 left1 bytes → IsAtEnd left1 →
     HasOpened show bytes disk0 disk1 out0 out1 log0 log1 status → RunsBatch show left0 disk0 disk1 out0 out1 log0 log1 status
@@ -39,7 +39,7 @@ module _ (show : Bool) (input : Option (List ℕ)) (disk : DiskState) (out0 out1
     damaged = λ e. absurd (damaged (let same : k ≡ 9 = omega arith in same));
     lines = lines;
     index = λ these. absurd (unfinished status k is done damaged these);
-    large = λ tells large these. not_these status k is done cut damaged these;
+    large = λ is_known large these. not_these status k is done cut damaged these;
   }
 
   pub input_failed : status ≡ 3 → Tells out0 out1 (codes "fault input\n") → RunsBatch show input disk disk out0 out1 log log status

@@ -39,7 +39,7 @@ pub record RunsOn (show : Bool) (bytes : List ℕ) (s : Space) (held : Held) (ou
   pub more : List Command
   pub rest : List ℕ
   pub log_rest : List ℕ
-  pub whole : script s.words bytes ≡ commands_of turns ++ more
+  pub whole : script s.dimension bytes ≡ commands_of turns ++ more
   pub are : AllByRecursion (IsTurn s held) turns
   pub ends : Ends (Rose out0.faults out1.faults) (IsCutShort s show held more) status turns more rest log_rest
   -- the disk fails before the first command, if it does
@@ -50,7 +50,7 @@ pub record RunsOn (show : Bool) (bytes : List ℕ) (s : Space) (held : Held) (ou
 -- what a batch does whose script is `bytes`
 abbrev pub RunsScript : Bool → List ℕ → DiskState → SinkState → SinkState → SinkState → SinkState → ℕ → Type 0
 RunsScript show bytes disk0 out0 out1 log0 log1 status =
-    IsTrue disk0.tells → (head : Head) (live : Live) → IsSoundFile (space_of head) head live disk0.bytes →
+    IsTrue disk0.is_known → (head : Head) (live : Live) → IsSoundFile (space_of head) head live disk0.bytes →
     RunsOn show bytes (space_of head) (held_in head.dim live disk0.bytes) out0 out1 log0 log1 status
 
 -- the file opens, and the search of a query meets the damaged page
@@ -63,7 +63,7 @@ pub record HasDamagedPage (file : List ℕ) (fault : PageFault) : Type 0 where
 
 -- the last line names a damaged page
 abbrev pub TellsDamage : DiskState → SinkState → SinkState → Type 0
-TellsDamage disk0 out0 out1 = (fault : PageFault) × EndsIn out0 out1 (damaged_text fault) × (IsTrue disk0.tells → HasDamagedPage disk0.bytes fault)
+TellsDamage disk0 out0 out1 = (fault : PageFault) × EndsIn out0 out1 (damaged_text fault) × (IsTrue disk0.is_known → HasDamagedPage disk0.bytes fault)
 
 -- What a batch does with a file and a script: on a sound file it runs the script, and on any file its refusals have their causes.
 -- Nothing is changed.
@@ -71,13 +71,13 @@ pub record RunsBatch (show : Bool) (input : Option (List ℕ)) (disk0 disk1 : Di
   pub runs : IfSome input (λ bytes. RunsScript show bytes disk0 out0 out1 log0 log1 status)
   pub unchanged : IsUnchanged disk0 disk1
   pub disk : status ≡ 5 → Rose disk0.faults disk1.faults
-  pub not_index : status ≡ 6 → (name : List ℕ) × Tells out0 out1 (not_index_text name) × (IsTrue disk0.tells → IsNoIndex disk0.bytes name)
+  pub not_index : status ≡ 6 → (name : List ℕ) × Tells out0 out1 (not_index_text name) × (IsTrue disk0.is_known → IsNoIndex disk0.bytes name)
   pub damaged : status ≡ 9 → TellsDamage disk0 out0 out1
   -- on any file: where the status is a fault's, its line stands there, and only an index is searched
   pub lines : TellsFault status out0 out1
-  pub index : (status ≡ 0) ⊎ (status ≡ 9) → IsTrue disk0.tells → IsIndex disk0.bytes
+  pub index : (status ≡ 0) ⊎ (status ≡ 9) → IsTrue disk0.is_known → IsIndex disk0.bytes
   -- a file with too many pages never gives status 0, 4 or 9
-  pub large : IsTrue disk0.tells → IsLarge disk0.bytes → (status ≡ 0) ⊎ ((status ≡ 4) ⊎ (status ≡ 9)) → ⊥
+  pub large : IsTrue disk0.is_known → IsLarge disk0.bytes → (status ≡ 0) ⊎ ((status ≡ 4) ⊎ (status ≡ 9)) → ⊥
 
 -- Some input was taken. Where it is more than 2 ^ 26 bytes the status is 7; and 7 comes only there or where the file has too many pages.
 pub record IsTooLong (left0 left1 : Option (List ℕ)) (disk0 : DiskState) (status : ℕ) : Type 0 where
@@ -85,7 +85,7 @@ pub record IsTooLong (left0 left1 : Option (List ℕ)) (disk0 : DiskState) (stat
   pub taken : Consumes left0 left1 bytes
   pub few : length bytes ≤ 2 ^ 26 + 4096
   pub long : 2 ^ 26 < length bytes → status ≡ 7
-  pub only : status ≡ 7 → (2 ^ 26 < length bytes) ⊎ (IsTrue disk0.tells → IsLarge disk0.bytes)
+  pub only : status ≡ 7 → (2 ^ 26 < length bytes) ⊎ (IsTrue disk0.is_known → IsLarge disk0.bytes)
 
 -- the statuses with which a batch ends
 abbrev pub IsBatchStatus : ℕ → Type 0
@@ -97,7 +97,7 @@ IsBatchStatus n = (n ≡ 0) ⊎ ((n ≡ 3) ⊎ ((n ≡ 4) ⊎ ((n ≡ 5) ⊎ ((n
 pub record HasFinished (s : Space) (live : Live) (image : List ℕ) (out0 out1 log0 log1 : SinkState) (status : ℕ) : Type 0 where
   pub output : status ≡ 4 → Rose out0.faults out1.faults ⊎ Rose log0.faults log1.faults
   pub damaged : status ≡ 9 → (fault : PageFault) × EndsIn out0 out1 (damaged_text fault)
-      × ((asked : Query) × HasDamage s live (reading s.words live.pages image) asked fault)
+      × ((asked : Query) × HasDamage s live (reading s.dimension live.pages image) asked fault)
   pub memory : status ≡ 8 → EndsIn out0 out1 (codes "fault memory\n")
   pub statuses : (status ≡ 0) ⊎ ((status ≡ 4) ⊎ ((status ≡ 8) ⊎ (status ≡ 9)))
 
@@ -107,10 +107,10 @@ pub record HasOpened (show : Bool) (bytes : List ℕ) (disk0 disk1 : DiskState) 
   pub unchanged : IsUnchanged disk0 disk1
   pub output : status ≡ 4 → Rose out0.faults out1.faults ⊎ Rose log0.faults log1.faults
   pub disk : status ≡ 5 → Rose disk0.faults disk1.faults
-  pub not_index : status ≡ 6 → (name : List ℕ) × Tells out0 out1 (not_index_text name) × (IsTrue disk0.tells → IsNoIndex disk0.bytes name)
-  pub long : status ≡ 7 → IsTrue disk0.tells → IsLarge disk0.bytes
+  pub not_index : status ≡ 6 → (name : List ℕ) × Tells out0 out1 (not_index_text name) × (IsTrue disk0.is_known → IsNoIndex disk0.bytes name)
+  pub long : status ≡ 7 → IsTrue disk0.is_known → IsLarge disk0.bytes
   pub damaged : status ≡ 9 → TellsDamage disk0 out0 out1
   pub lines : TellsFault status out0 out1
-  pub index : (status ≡ 0) ⊎ (status ≡ 9) → IsTrue disk0.tells → IsIndex disk0.bytes
-  pub large : IsTrue disk0.tells → IsLarge disk0.bytes → (status ≡ 0) ⊎ ((status ≡ 4) ⊎ (status ≡ 9)) → ⊥
+  pub index : (status ≡ 0) ⊎ (status ≡ 9) → IsTrue disk0.is_known → IsIndex disk0.bytes
+  pub large : IsTrue disk0.is_known → IsLarge disk0.bytes → (status ≡ 0) ⊎ ((status ≡ 4) ⊎ (status ≡ 9)) → ⊥
   pub statuses : (status ≡ 0) ⊎ ((status ≡ 4) ⊎ ((status ≡ 5) ⊎ ((status ≡ 6) ⊎ ((status ≡ 7) ⊎ ((status ≡ 8) ⊎ (status ≡ 9))))))

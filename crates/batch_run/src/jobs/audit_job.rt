@@ -4,7 +4,7 @@ ghost use Rattle.outside_io.specs.Causes.{Rose};
 ghost use Rattle.disk_model.specs.Disk.{IsUnchanged};
 ghost use Rattle.job_files.specs.Spaces.{space_of};
 ghost use Rattle.tree_shape.specs.Tree.{pages_at};
-ghost use Rattle.node_page.specs.Heads.{IsLawfulHead};
+ghost use Rattle.node_page.specs.Heads.{IsValidHead};
 ghost use Rattle.page_store.specs.Reading.{reading, nodes_of};
 ghost use Rattle.tree_audit.specs.Audited.{audit_fault};
 ghost use Rattle.job_files.specs.Jobs.{Audits, HasFault, IsAuditStatus};
@@ -30,15 +30,15 @@ fn audit_by<R: Threads + Sync, D: SharedDisk>(
     live: &Live,
     workers: usize,
 ) -> Result<Audited, AuditFault>
-    requires head { IsLawfulHead head.now }
+    requires head { IsValidHead head.now }
     requires pages { live.now.pages ≤ 2 ^ 24 }
     requires some { 1 ≤ workers }
     requires many { workers ≤ 64 }
     ensures same { IsUnchanged (D.state disk.old) (D.state disk.new) }
-    ensures ok { IfOk result (λ a. IsTrue (D.state disk.old).tells
+    ensures ok { IfOk result (λ a. IsTrue (D.state disk.old).is_known
         → audit_fault (space_of head.now) (reading head.now.dim live.now.pages (D.state disk.old).bytes) live.now ≡ None) }
     ensures objects { IfOk result (λ a. a.objects ≡ live.now.count) }
-    ensures nodes { IfOk result (λ a. IsTrue (D.state disk.old).tells
+    ensures nodes { IfOk result (λ a. IsTrue (D.state disk.old).is_known
         → a.nodes ≡ length (pages_at (nodes_of (reading head.now.dim live.now.pages (D.state disk.old).bytes))
         live.now.height live.now.root)) }
     ensures err { IfErr result (HasFault (D.state disk.old) (D.state disk.new).faults

@@ -4,7 +4,7 @@ ghost use Rattle.std.specs.Io.KnownBytes.{IsAtEnd};
 ghost use Rattle.outside_io.specs.Causes.{Rose};
 ghost use Rattle.outside_io.specs.Sinks.{Tells};
 ghost use Rattle.tree_shape.specs.Tree.{IsSoundTree};
-ghost use Rattle.node_page.specs.Heads.{IsLawfulHead};
+ghost use Rattle.node_page.specs.Heads.{IsValidHead};
 ghost use Rattle.page_store.specs.Files.{nodes_in};
 ghost use Rattle.page_store.specs.Images.{bytes_in};
 ghost use Rattle.answer_texts.specs.Asked.{held_in};
@@ -70,7 +70,7 @@ fn run_on_image<R: Threads + Sync, K: Sink, T: Sink>(
     out: &mut K,
     log_out: &mut T,
 ) -> Status
-    requires head { IsLawfulHead head.now }
+    requires head { IsValidHead head.now }
     requires pages { live.now.pages ≤ 2 ^ 24 }
     requires some { 1 ≤ task.now.workers }
     requires many { task.now.workers ≤ 64 }
@@ -84,7 +84,7 @@ fn run_on_image<R: Threads + Sync, K: Sink, T: Sink>(
     ensures log_later { (T.state log_out.old).faults ≤ (T.state log_out.new).faults }
 {
     let space = space_of(head);
-    let Ok(commands) = read_script(alloc, task.bytes, space.words()) else {
+    let Ok(commands) = read_script(alloc, task.bytes, space.dimension()) else {
         return end_with(out, FAULT_MEMORY, 8);
     };
     let deal = Deal::of(commands.len(), task.workers);

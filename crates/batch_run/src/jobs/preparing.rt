@@ -38,7 +38,7 @@ fn add_for<M: Metric>(
 ) -> Result<(), Memory>
     requires few { live.now.pages ≤ 2 ^ 24 }
     requires pages { ArePagesOf (M.space metric) live.now (bytes_in pages.old.inner.image) pages.old }
-    requires readable { IsReadable (M.space metric).words command.now }
+    requires readable { IsReadable (M.space metric).dimension command.now }
     ensures more { OnOk result (HasMoreFor (M.space metric) live.now (bytes_in pages.old.inner.image) show command.now pile.old pile.new) }
     ensures same { ArePagesOf (M.space metric) live.now (bytes_in pages.old.inner.image) pages.new }
 {
@@ -60,7 +60,7 @@ fn pile_of<M: Metric>(
     worker: usize,
 ) -> Result<Pile, Memory>
     requires pages { live.now.pages ≤ 2 ^ 24 }
-    requires readable { All (IsReadable (M.space metric).words) commands.now }
+    requires readable { All (IsReadable (M.space metric).dimension) commands.now }
     requires deal { IsDeal (record { rounds = deal.now.rounds; workers = deal.now.workers }) }
     requires worker { worker < deal.now.workers }
     ensures { IfOk result (IsPileIn (M.space metric) live.now (bytes_in image.entry) show commands.now
@@ -101,13 +101,13 @@ pub fn prepare_all<R: Threads + Sync, M: Metric>(
     deal: &Deal,
 ) -> Result<Vec<Pile>, Memory>
     requires pages { live.now.pages ≤ 2 ^ 24 }
-    requires readable { All (IsReadable (M.space metric).words) commands.now }
+    requires readable { All (IsReadable (M.space metric).dimension) commands.now }
     requires deal { IsDeal (record { rounds = deal.now.rounds; workers = deal.now.workers }) }
     ensures { IfOk result (λ piles. ArePiles (M.space metric) live.now (bytes_in image.entry) show commands.now
         (record { rounds = deal.now.rounds; workers = deal.now.workers }) piles.items) }
 {
     let work = |worker: usize| -> Result<Pile, Memory>
-        requires { (live.now.pages ≤ 2 ^ 24) × All (IsReadable (M.space metric).words) commands.now
+        requires { (live.now.pages ≤ 2 ^ 24) × All (IsReadable (M.space metric).dimension) commands.now
             × IsDeal (record { rounds = deal.now.rounds; workers = deal.now.workers }) × (worker < deal.now.workers) }
         ensures { IfOk result (IsPileIn (M.space metric) live.entry.now (bytes_in image.entry) show commands.entry.now
             (record { rounds = deal.entry.now.rounds; workers = deal.entry.now.workers }) deal.entry.now.rounds worker) }

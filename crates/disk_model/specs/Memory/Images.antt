@@ -61,7 +61,7 @@ LeftAt first past moment image = IsImage (replayed (at_rest first) (take moment 
 -- what a disk in memory means; its clock is the number of recorded calls
 abbrev pub memory_state : SimulatedDisk → DiskState
 memory_state disk = record {
-  tells = true;
+  is_known = true;
   bytes = (kept_by disk).read;
   clock = length disk.past;
   images = LeftAt disk.first disk.past;

@@ -7,7 +7,7 @@ use Rattle.std.specs.Io.KnownBytes.{Appends}
 use Rattle.job_files.specs.Lines.{not_index_text}
 use Rattle.job_files.specs.declared.logs.stop.LogStop.{LogStop}
 use Rattle.job_files.specs.declared.logs.stop.LogStop.TheVariants as stop
-use Rattle.job_files.specs.Logs.Sayings.{Saying}
+use Rattle.job_files.specs.Logs.JobReports.{JobReport}
 use Rattle.job_files.specs.Logs.Jobs.{Puts, Writes, Stops, IsCut, JudgesBytes, IsJudgeStatus, TakesLogs, EndsUnread, ReadsLogs}
 use Rattle.outside_io.proofs.Published.{rose_before}
 
@@ -25,7 +25,7 @@ of_three n a b c x either is p q r = ⊎_elim (λ e. clash n a x e is p) (λ res
 -- ---- what was said
 
 -- all
-pub said_all : (said : Saying) (w0 w1 : SinkState) (status : ℕ) → (status ≡ 0) ⊎ (status ≡ 1) → status ≡ said.status → Puts said.texts w0.written w1.written None → Writes status said w0 w1
+pub said_all : (said : JobReport) (w0 w1 : SinkState) (status : ℕ) → (status ≡ 0) ⊎ (status ≡ 1) → status ≡ said.status → Puts said.texts w0.written w1.written None → Writes status said w0 w1
 said_all said w0 w1 status either is puts = record {
   put = puts.put;
   more = puts.more;
@@ -45,13 +45,13 @@ pub neither : {P : Type 0} (status n : ℕ) → status ≡ n → n ≢ 0 → n �
 neither status n is a b either = absurd (⊎_elim (λ e. a (sym is ∙ e)) (λ e. b (sym is ∙ e)) either)
 
 -- a line behind what was put
-tells_from : (w0 w1 w2 : SinkState) (middle : Option (List ℕ)) (line : List ℕ) → w1.written ≡ middle → w0.faults ≤ w1.faults → Tells w1 w2 line → Tells (record w0 { written = middle }) w2 line
-tells_from w0 w1 w2 middle line is later told =
+known_from : (w0 w1 w2 : SinkState) (middle : Option (List ℕ)) (line : List ℕ) → w1.written ≡ middle → w0.faults ≤ w1.faults → Tells w1 w2 line → Tells (record w0 { written = middle }) w2 line
+known_from w0 w1 w2 middle line is later told =
     ⊎_elim (λ whole. inl (subst (λ (w : Option (List ℕ)). Appends w w2.written line) is whole))
     (λ cut. inr (subst (λ (w : Option (List ℕ)). AppendsPrefix w w2.written line) is cut.0, rose_before w0.faults w1.faults w2.faults later cut.1)) told
 
 -- it stopped before
-pub said_some : (said : Saying) (w0 w1 w2 : SinkState) (status : ℕ) (why : LogStop) → w0.faults ≤ w1.faults → Puts said.texts w0.written w1.written (Some why) → Stops why w1 w2 status → Writes status said w0 w2
+pub said_some : (said : JobReport) (w0 w1 w2 : SinkState) (status : ℕ) (why : LogStop) → w0.faults ≤ w1.faults → Puts said.texts w0.written w1.written (Some why) → Stops why w1 w2 status → Writes status said w0 w2
 said_some said w0 w1 w2 status stop.Sink later puts ends = record {
   put = puts.put;
   more = puts.more;
@@ -74,7 +74,7 @@ said_some said w0 w1 w2 status stop.Disk later puts ends = record {
   ends = record {
     done = λ either. neither status 5 ends.0 (omega arith) (omega arith) either;
     output = λ other. clash status 5 4 ends.0 other (omega arith);
-    disk = λ _. tells_from w0 w1 w2 puts.middle (codes "fault disk\n") puts.follows later ends.1;
+    disk = λ _. known_from w0 w1 w2 puts.middle (codes "fault disk\n") puts.follows later ends.1;
     memory = λ other. clash status 5 8 ends.0 other (omega arith);
   };
 }
@@ -88,7 +88,7 @@ said_some said w0 w1 w2 status stop.Memory later puts ends = record {
     done = λ either. neither status 8 ends.0 (omega arith) (omega arith) either;
     output = λ other. clash status 8 4 ends.0 other (omega arith);
     disk = λ other. clash status 8 5 ends.0 other (omega arith);
-    memory = λ _. tells_from w0 w1 w2 puts.middle (codes "fault memory\n") puts.follows later ends.1;
+    memory = λ _. known_from w0 w1 w2 puts.middle (codes "fault memory\n") puts.follows later ends.1;
   };
 }
 

@@ -3,7 +3,7 @@ use Rattle.std.proofs.Common.{◌≡◌, ℕ, ◌+◌, ◌&&◌, Bool, true, fal
 use Rattle.std.specs.Option.{is_none}
 use Rattle.job_files.specs.declared.logs.report.Report.{Report}
 use Rattle.job_files.specs.declared.logs.stop.LogStop.{LogStop}
-use Rattle.job_files.specs.Logs.Sayings.{Words, frame_text, frame_texts, are_sound}
+use Rattle.job_files.specs.Logs.JobReports.{Words, frame_text, frame_texts, are_sound}
 use Rattle.job_files.specs.Logs.Jobs.{Puts}
 use Rattle.job_files.proofs.logs.Puts.{HasPut, one_more, then_put, stopped_put}
 

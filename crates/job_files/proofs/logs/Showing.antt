@@ -1,7 +1,7 @@
 -- The texts on logs show which are complete.
 use Rattle.std.proofs.Common.{◌≡◌, ◌+◌, ℕ, List, [], ◌∷◌, Option, Some, None, inl, inr, refl}
 use Rattle.job_files.specs.declared.logs.report.Report.TheVariants as report
-use Rattle.job_files.specs.Logs.Sayings.{Words, frame_text, frame_texts}
+use Rattle.job_files.specs.Logs.JobReports.{Words, frame_text, frame_texts}
 use Rattle.job_files.specs.Logs.Laws.{ShowsLog, ShowLogs}
 
 shows_one : {L V : Type 0} (words : Words L V) (judge : L → Option V) (IsComplete : L → Type 0) → ((log : L) → judge log ≡ None → IsComplete log)

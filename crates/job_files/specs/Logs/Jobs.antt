@@ -7,7 +7,7 @@ use Rattle.outside_io.specs.Sinks.{SinkState, Tells}
 use Rattle.job_files.specs.Lines.{not_index_text}
 use Rattle.job_files.specs.declared.logs.stop.LogStop.{LogStop}
 use Rattle.job_files.specs.declared.logs.stop.LogStop.TheVariants as stop
-use Rattle.job_files.specs.Logs.Sayings.{Saying}
+use Rattle.job_files.specs.Logs.JobReports.{JobReport}
 
 -- ---- what was put
 
@@ -45,14 +45,14 @@ Stops stop.Disk old new status = (status ≡ 5) × Tells old new (codes "fault d
 Stops stop.Memory old new status = (status ≡ 8) × Tells old new (codes "fault memory\n")
 
 -- what was put after whole texts, where `more` are the others, when a job ends with a status
-pub record Ends (status : ℕ) (said : Saying) (more : List (List ℕ)) (middle new : SinkState) : Type 0 where
+pub record Ends (status : ℕ) (said : JobReport) (more : List (List ℕ)) (middle new : SinkState) : Type 0 where
   pub done : (status ≡ 0) ⊎ (status ≡ 1) → (status ≡ said.status) × (more ≡ []) × (new.written ≡ middle.written)
   pub output : status ≡ 4 → IsCut more middle.written new.written
   pub disk : status ≡ 5 → Tells middle new (codes "fault disk\n")
   pub memory : status ≡ 8 → Tells middle new (codes "fault memory\n")
 
 -- some of the texts of what is said were put, each whole, and then what the status tells
-pub record Writes (status : ℕ) (said : Saying) (old new : SinkState) : Type 0 where
+pub record Writes (status : ℕ) (said : JobReport) (old new : SinkState) : Type 0 where
   pub put : List (List ℕ)
   pub more : List (List ℕ)
   pub middle : Option (List ℕ)

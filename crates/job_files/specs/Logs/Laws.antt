@@ -1,7 +1,7 @@
 -- What it means that logs are shown to be complete.
 use Rattle.std.specs.Prelude.{◌≡◌, ◌↔◌, ◌⊎◌, ℕ, ◌+◌, List, [], ◌∷◌, Option, Some, None}
 use Rattle.job_files.specs.declared.logs.report.Report.TheVariants as report
-use Rattle.job_files.specs.Logs.Sayings.{Words, complete_frame, rejected_frame, frame_texts}
+use Rattle.job_files.specs.Logs.JobReports.{Words, complete_frame, rejected_frame, frame_texts}
 
 -- the text of a frame says that its log is complete, and it is; or it names the log's first fault
 abbrev pub ShowsLog : {L V : Type 0} → Words L V → (L → Option V) → (L → Type 0) → ℕ → L → List ℕ → Type 0

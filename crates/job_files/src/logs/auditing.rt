@@ -3,10 +3,10 @@ ghost use Rattle.std.specs.Prelude.{◌≡◌, ◌≤◌, ◌+◌, ◌^◌, ◌�
 ghost use Rattle.std.specs.Option.{is_none};
 ghost use Rattle.outside_io.specs.Causes.{Rose};
 ghost use Rattle.disk_model.specs.Disk.{IsUnchanged};
-ghost use Rattle.node_page.specs.Heads.{IsLawfulHead};
+ghost use Rattle.node_page.specs.Heads.{IsValidHead};
 ghost use Rattle.job_files.specs.Logs.Files.{fault_of};
 ghost use Rattle.job_files.specs.Logs.Jobs.{Puts, stop_of};
-ghost use Rattle.job_files.specs.Logs.Sayings.{file_text};
+ghost use Rattle.job_files.specs.Logs.JobReports.{file_text};
 
 use crate::audit_opened;
 use crate::logs::putting::{file_text, put};
@@ -25,10 +25,10 @@ fn audit_file<D: Disk>(
     disk: &mut D,
     opened: &(Head, Live),
 ) -> Result<Option<AuditFault>, LogStop>
-    requires head { IsLawfulHead opened.now.0 }
+    requires head { IsValidHead opened.now.0 }
     requires pages { opened.now.1.pages ≤ 2 ^ 24 }
     ensures same { IsUnchanged (D.state disk.old) (D.state disk.new) }
-    ensures told { IfOk result (λ found. IsTrue (D.state disk.old).tells →
+    ensures told { IfOk result (λ found. IsTrue (D.state disk.old).is_known →
         fault_of (D.state disk.old).bytes opened.now.0 opened.now.1 ≡ found) }
     ensures disk { IsErrOf result LogStop.Disk → Rose (D.state disk.old).faults (D.state disk.new).faults }
     ensures not_sink { IsErrOf result LogStop.Sink → ⊥ }
@@ -53,13 +53,13 @@ pub fn put_audit<D: Disk, K: Sink>(
     opened: &(Head, Live),
     out: &mut K,
 ) -> Result<bool, LogStop>
-    requires head { IsLawfulHead opened.now.0 }
+    requires head { IsValidHead opened.now.0 }
     requires pages { opened.now.1.pages ≤ 2 ^ 24 }
     ensures same { IsUnchanged (D.state disk.old) (D.state disk.new) }
-    ensures puts { IsTrue (D.state disk.old).tells →
+    ensures puts { IsTrue (D.state disk.old).is_known →
         Puts (file_text name.now (fault_of (D.state disk.old).bytes opened.now.0 opened.now.1) ∷ [])
         (K.state out.old).written (K.state out.new).written (stop_of result) }
-    ensures sound { IfOk result (λ sound. IsTrue (D.state disk.old).tells →
+    ensures sound { IfOk result (λ sound. IsTrue (D.state disk.old).is_known →
         sound ≡ is_none (fault_of (D.state disk.old).bytes opened.now.0 opened.now.1)) }
     ensures later { (D.state disk.old).faults ≤ (D.state disk.new).faults }
     ensures reads { (D.state disk.new).reads ≤ (D.state disk.old).reads + max 1 opened.now.1.pages }

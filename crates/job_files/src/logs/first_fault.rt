@@ -2,7 +2,7 @@
 ghost use Rattle.std.specs.Prelude.{◌≡◌, ◌≤◌, ◌+◌, length, IsTrue, IfOk, IsErrOf};
 ghost use Rattle.outside_io.specs.Causes.{Rose};
 ghost use Rattle.page_store.specs.Shelf.{HoldsSame};
-ghost use Rattle.log_model.specs.Grammar.{IsLawfulLog};
+ghost use Rattle.log_model.specs.Grammar.{IsValidLog};
 ghost use Rattle.log_verify.specs.Judged.{log_fault};
 
 use crate::logs::stop::LogStop;
@@ -22,10 +22,10 @@ pub fn first_fault<M: Metric, P: Pages>(
     live: &Live,
     log: &Log,
 ) -> Result<Option<Verdict>, LogStop>
-    requires { IsLawfulLog log.now }
+    requires { IsValidLog log.now }
     ensures same { HoldsSame (P.shelf pages.old) (P.shelf pages.new) }
     ensures keeps { P.keeps pages.old pages.new }
-    ensures told { IfOk result (λ found. IsTrue (P.shelf pages.old).tells →
+    ensures told { IfOk result (λ found. IsTrue (P.shelf pages.old).is_known →
         log_fault (M.space metric) (P.shelf pages.old).read live.now log.now ≡ found) }
     ensures reads { (P.shelf pages.new).reads ≤ (P.shelf pages.old).reads + length log.now.records }
     ensures disk { IsErrOf result LogStop.Disk → Rose (P.shelf pages.old).faults (P.shelf pages.new).faults }

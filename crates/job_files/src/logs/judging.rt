@@ -4,18 +4,18 @@ ghost use Rattle.std.specs.Option.{is_none};
 ghost use Rattle.outside_io.specs.Causes.{Rose};
 ghost use Rattle.job_files.specs.Reads.{reads_of};
 ghost use Rattle.job_files.specs.Logs.Jobs.{Puts, stop_of};
-ghost use Rattle.job_files.specs.Logs.Sayings.{are_sound, frame_text, frame_texts, on_logs};
+ghost use Rattle.job_files.specs.Logs.JobReports.{are_sound, frame_text, frame_texts, on_logs};
 
 use crate::logs::lines::{push_frame, undecoded_text};
 use crate::logs::putting::{end_text, put};
 use crate::logs::stop::LogStop;
-use crate::logs::{Court, Report};
+use crate::logs::{Checker, Report};
 use outside_io::{Memory, Sink, Status};
 use prune_log::LogFault;
 use std::alloc::Global;
 
 // Makes the text on the log of frame `frame` with its first fault, or with none.
-fn frame_text<C: Court>(
+fn frame_text<C: Checker>(
     alloc: Global,
     report: Report,
     frame: u64,
@@ -42,56 +42,56 @@ fn frame_text<C: Court>(
 }
 
 // Judges the log of frame `frame` and puts its text. Returns whether it has no fault.
-// Clauses: what is asked of the caller (the one without a name); the answer (`sound`); what is written (`puts`); what stays (`tells`,
+// Clauses: what is asked of the caller (the one without a name); the answer (`sound`); what is written (`puts`); what stays (`is_known`,
 // `judges`, `keeps`); the cost (`few`); the cause of an error (`output`, `disk`); faults of the devices (`later`).
-fn judge_frame<C: Court, K: Sink>(
+fn judge_frame<C: Checker, K: Sink>(
     alloc: Global,
     report: Report,
-    court: &mut C,
+    checker: &mut C,
     frame: u64,
     log: C::Log,
     out: &mut K,
 ) -> Result<bool, LogStop>
-    requires { C.is_lawful log }
-    ensures puts { C.tells court.old → Puts (frame_text C.words report frame log (C.judges court.old log) ∷ [])
+    requires { C.is_valid log }
+    ensures puts { C.is_known checker.old → Puts (frame_text C.words report frame log (C.judges checker.old log) ∷ [])
         (K.state out.old).written (K.state out.new).written (stop_of result) }
-    ensures sound { IfOk result (λ sound. C.tells court.old → sound ≡ is_none (C.judges court.old log)) }
-    ensures tells { C.tells court.old → C.tells court.new }
-    ensures judges { C.judges court.new ≡ C.judges court.old }
-    ensures keeps { C.keeps court.old court.new }
-    ensures few { C.read_count court.new ≤ C.read_count court.old + C.most_reads log }
+    ensures sound { IfOk result (λ sound. C.is_known checker.old → sound ≡ is_none (C.judges checker.old log)) }
+    ensures is_known { C.is_known checker.old → C.is_known checker.new }
+    ensures judges { C.judges checker.new ≡ C.judges checker.old }
+    ensures keeps { C.keeps checker.old checker.new }
+    ensures few { C.read_count checker.new ≤ C.read_count checker.old + C.most_reads log }
     ensures later { (K.state out.old).faults ≤ (K.state out.new).faults }
     ensures output { IsErrOf result LogStop.Sink → Rose (K.state out.old).faults (K.state out.new).faults }
-    ensures disk { IsErrOf result LogStop.Disk → C.failed court.old court.new }
+    ensures disk { IsErrOf result LogStop.Disk → C.failed checker.old checker.new }
 {
-    let fault = court.judge(alloc, &log)?;
+    let fault = checker.judge(alloc, &log)?;
     let text = frame_text::<C>(alloc, report, frame, log, fault)?;
     put(out, &text)?;
     Ok(fault.is_none())
 }
 
 // Judges the logs of all frames and puts their texts. Returns whether none has a fault.
-fn judge_frames<C: Court, K: Sink>(
+fn judge_frames<C: Checker, K: Sink>(
     alloc: Global,
     report: Report,
-    court: &mut C,
+    checker: &mut C,
     logs: Vec<C::Log>,
     out: &mut K,
 ) -> Result<bool, LogStop>
-    requires { All C.is_lawful logs.items }
-    ensures puts { C.tells court.old → Puts (frame_texts C.words report (C.judges court.old) 0 logs.items)
+    requires { All C.is_valid logs.items }
+    ensures puts { C.is_known checker.old → Puts (frame_texts C.words report (C.judges checker.old) 0 logs.items)
         (K.state out.old).written (K.state out.new).written (stop_of result) }
-    ensures sound { IfOk result (λ sound. C.tells court.old → sound ≡ are_sound (C.judges court.old) logs.items) }
-    ensures keeps { C.keeps court.old court.new }
-    ensures few { C.read_count court.new ≤ C.read_count court.old + sum_by C.most_reads logs.items }
+    ensures sound { IfOk result (λ sound. C.is_known checker.old → sound ≡ are_sound (C.judges checker.old) logs.items) }
+    ensures keeps { C.keeps checker.old checker.new }
+    ensures few { C.read_count checker.new ≤ C.read_count checker.old + sum_by C.most_reads logs.items }
     ensures later { (K.state out.old).faults ≤ (K.state out.new).faults }
     ensures output { IsErrOf result LogStop.Sink → Rose (K.state out.old).faults (K.state out.new).faults }
-    ensures disk { IsErrOf result LogStop.Disk → C.failed court.old court.new }
+    ensures disk { IsErrOf result LogStop.Disk → C.failed checker.old checker.new }
 {
     let mut frame = 0;
     let mut sound = true;
     for log in logs {
-        let is_sound = judge_frame(alloc, report, court, frame, log, out)?;
+        let is_sound = judge_frame(alloc, report, checker, frame, log, out)?;
         sound &= is_sound;
         frame += 1;
     }
@@ -99,23 +99,23 @@ fn judge_frames<C: Court, K: Sink>(
 }
 
 /// Judges the logs that `bytes` spell, puts the text on each as soon as it is judged, and returns the status.
-pub fn judge_bytes<C: Court, K: Sink>(
+pub fn judge_bytes<C: Checker, K: Sink>(
     alloc: Global,
     report: Report,
-    court: &mut C,
+    checker: &mut C,
     bytes: &[u8],
     out: &mut K,
 ) -> Result<Status, LogStop>
-    ensures puts { C.tells court.old → Puts (on_logs C.words report (C.judges court.old) (C.reads bytes.now)).texts
+    ensures puts { C.is_known checker.old → Puts (on_logs C.words report (C.judges checker.old) (C.reads bytes.now)).texts
         (K.state out.old).written (K.state out.new).written (stop_of result) }
-    ensures status { IfOk result (λ status. C.tells court.old →
-        status.0 ≡ (on_logs C.words report (C.judges court.old) (C.reads bytes.now)).status) }
+    ensures status { IfOk result (λ status. C.is_known checker.old →
+        status.0 ≡ (on_logs C.words report (C.judges checker.old) (C.reads bytes.now)).status) }
     ensures statuses { IfOk result (λ status. (status.0 ≡ 0) ⊎ (status.0 ≡ 1)) }
-    ensures keeps { C.keeps court.old court.new }
-    ensures few { C.read_count court.new ≤ C.read_count court.old + reads_of C.most_reads (C.reads bytes.now) }
+    ensures keeps { C.keeps checker.old checker.new }
+    ensures few { C.read_count checker.new ≤ C.read_count checker.old + reads_of C.most_reads (C.reads bytes.now) }
     ensures later { (K.state out.old).faults ≤ (K.state out.new).faults }
     ensures output { IsErrOf result LogStop.Sink → Rose (K.state out.old).faults (K.state out.new).faults }
-    ensures disk { IsErrOf result LogStop.Disk → C.failed court.old court.new }
+    ensures disk { IsErrOf result LogStop.Disk → C.failed checker.old checker.new }
 {
     let logs = match C::read_frames(alloc, bytes) {
         Ok(logs) => logs,
@@ -125,7 +125,7 @@ pub fn judge_bytes<C: Court, K: Sink>(
             return Ok(Status(1));
         }
     };
-    let sound = judge_frames(alloc, report, court, logs, out)?;
+    let sound = judge_frames(alloc, report, checker, logs, out)?;
     put(out, end_text(report, sound))?;
     Ok(Status(u8::from(!sound)))
 }

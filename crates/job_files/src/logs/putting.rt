@@ -4,7 +4,7 @@ ghost use Rattle.std.specs.Io.KnownBytes.{Appends};
 ghost use Rattle.outside_io.specs.Bytes.{AppendsPrefix};
 ghost use Rattle.outside_io.specs.Causes.{Rose};
 ghost use Rattle.job_files.specs.Logs.Jobs.{Puts, stop_of};
-ghost use Rattle.job_files.specs.Logs.Sayings.{end_text, file_text};
+ghost use Rattle.job_files.specs.Logs.JobReports.{end_text, file_text};
 
 use crate::logs::Report;
 use crate::logs::stop::LogStop;

@@ -55,7 +55,7 @@ new-distances-requires-clause-measurable g c =
     let centres : c.as_slice-3.result.now ≡ points_of points seeds = c.as_slice-3.ensures.value ∙ c.in_ok-centres.ensures in
     λ κs outlive. record {
       objects_fit = c.requires.points;
-      centres_fit = subst (λ (cs : List (List ℕ)). All (λ p. IsTrue (s.fits p)) cs) (sym centres)
+      centres_fit = subst (λ (cs : List (List ℕ)). All (λ p. IsTrue (s.is_point p)) cs) (sym centres)
           (centres_fit s rows c.args.set.now seeds c.requires.points c.requires.places inside);
       apart_is = c.as_slice-4.ensures.value ∙ c.in_ok-apart.ensures ∙ ap (all_apart s) (c.as_slice-2.ensures.value ∙ sym c.as_slice-3.ensures.value);
     }

@@ -11,7 +11,7 @@ returns-in-Ok-clause-given g c =
     let image = bytes_in c.args.pages.now.inner.image in
     let begun = counted_anew s c.args.live.now image c.args.pages.now c.count_anew.new.self c.requires.pages c.count_anew.ensures in
     let after = still_are s c.args.live.now image c.count_anew.new.self c.nearest.new.pages begun c.in-Ok.ensures.same c.in-Ok.ensures.keeps.0 in
-    nearest_found s c.args.live.now image c.args.q.now (rw (← c.as_slice.ensures) (sym c.fits.ensures ∙ c.if-not-fits.false)) _ _ c.nearest.new.pages.asked
+    nearest_found s c.args.live.now image c.args.q.now (rw (← c.as_slice.ensures) (sym c.is_point.ensures ∙ c.if-not-is_point.false)) _ _ c.nearest.new.pages.asked
     (unasked s c.args.live.now image c.args.pages.now c.count_anew.new.self c.requires.pages c.count_anew.ensures)
     (shelf_is s c.args.live.now image c.nearest.new.pages c.nearest.new.pages after)
     c.args.tags c.args.k (shelf_of c.tagged.new.pages) c.in-Ok.found refl (rw c.as_slice-2.ensures at c.in-Ok.ensures.log) (rw (c.new-ruler.ensures.metric, c.as_slice-2.ensures) at c.in-Ok.ensures.front) (rw (c.new-ruler.ensures.metric, c.as_slice-2.ensures) at c.in-Ok.ensures.nearest) c.tagged.result c.tagged.ensures.tagged
@@ -23,7 +23,7 @@ returns-in-Err-clause-given g c =
     let begun = counted_anew s c.args.live.now image c.args.pages.now c.count_anew.new.self c.requires.pages c.count_anew.ensures in
     let after = still_are s c.args.live.now image c.count_anew.new.self c.nearest.new.pages begun c.in-Err.ensures.same c.in-Err.ensures.keeps.0 in
     rw c.outcome_of_fault.ensures
-    (nearest_fault s c.args.live.now image c.args.q.now (rw (← c.as_slice.ensures) (sym c.fits.ensures ∙ c.if-not-fits.false)) _ _ c.nearest.new.pages.asked
+    (nearest_fault s c.args.live.now image c.args.q.now (rw (← c.as_slice.ensures) (sym c.is_point.ensures ∙ c.if-not-is_point.false)) _ _ c.nearest.new.pages.asked
     (unasked s c.args.live.now image c.args.pages.now c.count_anew.new.self c.requires.pages c.count_anew.ensures)
     (shelf_is s c.args.live.now image c.nearest.new.pages c.nearest.new.pages after)
     c.args.tags c.args.k c.in-Err.fault c.in-Err.ensures.cause (rw c.new-ruler.ensures.metric at c.in-Err.ensures.sound))
@@ -35,7 +35,7 @@ tagged-requires g c =
     let begun = counted_anew s c.args.live.now image c.args.pages.now c.count_anew.new.self c.requires.pages c.count_anew.ensures in
     let after = still_are s c.args.live.now image c.count_anew.new.self c.nearest.new.pages begun c.in-Ok.ensures.same c.in-Ok.ensures.keeps.0 in
     record {
-      marked = nearest_marked s c.args.live.now image c.args.q.now (rw (← c.as_slice.ensures) (sym c.fits.ensures ∙ c.if-not-fits.false)) _ _ c.nearest.new.pages.asked
+      marked = nearest_marked s c.args.live.now image c.args.q.now (rw (← c.as_slice.ensures) (sym c.is_point.ensures ∙ c.if-not-is_point.false)) _ _ c.nearest.new.pages.asked
           (unasked s c.args.live.now image c.args.pages.now c.count_anew.new.self c.requires.pages c.count_anew.ensures)
           (shelf_is s c.args.live.now image c.nearest.new.pages c.nearest.new.pages after)
           c.args.k c.in-Ok.found (rw (c.new-ruler.ensures.metric, c.as_slice-2.ensures) at c.in-Ok.ensures.front);
@@ -64,6 +64,6 @@ returns-in-Err-clause-same g c =
     still_are s c.args.live.now image c.count_anew.new.self c.nearest.new.pages
     (counted_anew s c.args.live.now image c.args.pages.now c.count_anew.new.self c.requires.pages c.count_anew.ensures) c.in-Err.ensures.same c.in-Err.ensures.keeps.0
 
-pub returns-then-not-fits-clause-given : goal.returns-then-not-fits-clause-given
-returns-then-not-fits-clause-given g c =
+pub returns-then-not-is_point-clause-given : goal.returns-then-not-is_point-clause-given
+returns-then-not-is_point-clause-given g c =
     given_plain (g.M.Metric.space c.args.metric) c.args.live.now (bytes_in c.args.pages.now.inner.image) (command.Nearest c.args.k c.args.q.now) c.args.tags c.refused.result (rw c.refused.ensures refl) (search rules)

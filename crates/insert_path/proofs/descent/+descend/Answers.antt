@@ -12,28 +12,28 @@ returns-in_err-node-clause-cause g t c =
     (g.P.Pages.shelf c.args.pages.now) (g.P.Pages.shelf c.own_node.new.pages) c.in_err-node.field-0.0 c.in_err-node.ensures.cause)
 
 pub returns-then-spot-ne0-clause-cause : goal.returns-then-spot-ne0-clause-cause
-returns-then-spot-ne0-clause-cause g t c = λ tells.
-    leaf_high (g.R.M.Metric.space (g.R.Ruler.metric c.args.ruler.now)) (g.P.Pages.shelf c.args.pages.now).read c.args.task.now.object.point.now c.args.spot.now.level c.args.spot.now.page c.in_ok-node.node c.in-Leaf.entries c.if-spot-ne0.true c.in-Leaf.is (c.in_ok-node.ensures.ok.told tells)
+returns-then-spot-ne0-clause-cause g t c = λ is_known.
+    leaf_high (g.R.M.Metric.space (g.R.Ruler.metric c.args.ruler.now)) (g.P.Pages.shelf c.args.pages.now).read c.args.task.now.object.point.now c.args.spot.now.level c.args.spot.now.page c.in_ok-node.node c.in-Leaf.entries c.if-spot-ne0.true c.in-Leaf.is (c.in_ok-node.ensures.ok.told is_known)
 
 pub returns-then-level-spot-clause-cause : goal.returns-then-level-spot-clause-cause
-returns-then-level-spot-clause-cause g t c = λ tells.
-    inner_other (g.R.M.Metric.space (g.R.Ruler.metric c.args.ruler.now)) (g.P.Pages.shelf c.args.pages.now).read c.args.task.now.object.point.now c.args.spot.now.level c.args.spot.now.page c.in-Inner.level c.in_ok-node.node c.in-Inner.entries c.if-level-spot.true c.in-Inner.is (c.in_ok-node.ensures.ok.told tells)
+returns-then-level-spot-clause-cause g t c = λ is_known.
+    inner_other (g.R.M.Metric.space (g.R.Ruler.metric c.args.ruler.now)) (g.P.Pages.shelf c.args.pages.now).read c.args.task.now.object.point.now c.args.spot.now.level c.args.spot.now.page c.in-Inner.level c.in_ok-node.node c.in-Inner.entries c.if-level-spot.true c.in-Inner.is (c.in_ok-node.ensures.ok.told is_known)
 
 pub returns-in_err-grew-in-Inner-clause-cause : goal.returns-in_err-grew-in-Inner-clause-cause
 returns-in_err-grew-in-Inner-clause-cause g t c =
     let p = err_from_is_err_and c.from_residual-in_err-grew-in-Inner.result c.from_residual-in_err-grew-in-Inner.ensures.1 in
     rw (p.1, p.2) (cause_below (g.P.Pages.shelf c.args.pages.now) (g.P.Pages.shelf c.own_node.new.pages) (g.P.Pages.shelf c.descend.new.pages) _ _ c.in_err-grew-in-Inner.field-0.0 c.own_node.ensures.same
-    (λ tells. fault_below (g.R.M.Metric.space (g.R.Ruler.metric c.args.ruler.now)) (g.R.M.Metric.space (g.R.Ruler.metric c.choose-place.new.ruler)) (g.P.Pages.shelf c.args.pages.now).read (g.P.Pages.shelf c.own_node.new.pages).read
+    (λ is_known. fault_below (g.R.M.Metric.space (g.R.Ruler.metric c.args.ruler.now)) (g.R.M.Metric.space (g.R.Ruler.metric c.choose-place.new.ruler)) (g.P.Pages.shelf c.args.pages.now).read (g.P.Pages.shelf c.own_node.new.pages).read
     c.args.task.now.object.point.now c.args.spot.now.level (c.args.spot.now.level - 1) c.args.spot.now.page c.in-Inner.level c.in_ok-node.node c.in-Inner.entries c.in_ok-entries-in-Inner.entries.items c.deref.result.now
     c.choose-place.result c.index-child.result.now (ap g.R.M.Metric.space c.choose-place.ensures.metric) c.own_node.ensures.same.read
-    (level_above (g.P.Pages.shelf c.args.pages.now).dim c.in-Inner.level c.args.spot.now.level c.in_ok-node.node c.in-Inner.entries c.in_ok-node.ensures.ok.lawful c.in-Inner.is c.if-level-spot.false)
+    (level_above (g.P.Pages.shelf c.args.pages.now).dim c.in-Inner.level c.args.spot.now.level c.in_ok-node.node c.in-Inner.entries c.in_ok-node.ensures.ok.valid c.in-Inner.is c.if-level-spot.false)
     c.if-level-spot.false c.in-Inner.is c.in_ok-entries-in-Inner.ensures
-    c.deref.ensures.value c.choose-place.ensures.chosen c.choose-place.ensures.place c.index-child.ensures (c.in_ok-node.ensures.ok.told tells))
+    c.deref.ensures.value c.choose-place.ensures.chosen c.choose-place.ensures.place c.index-child.ensures (c.in_ok-node.ensures.ok.told is_known))
     c.in_err-grew-in-Inner.ensures.cause)
 
 pub back_at-requires-clause-near : goal.back_at-requires-clause-near
 back_at-requires-clause-near g t c κs within =
-    read_near (g.P.Pages.shelf c.args.pages.now).dim c.in-Inner.level c.in_ok-node.node c.in-Inner.entries _ c.in_ok-node.ensures.ok.lawful c.in-Inner.is c.in_ok-entries-in-Inner.ensures
+    read_near (g.P.Pages.shelf c.args.pages.now).dim c.in-Inner.level c.in_ok-node.node c.in-Inner.entries _ c.in_ok-node.ensures.ok.valid c.in-Inner.is c.in_ok-entries-in-Inner.ensures
 
 pub back_at-requires-clause-small : goal.back_at-requires-clause-small
 back_at-requires-clause-small g t c κs within =
@@ -55,7 +55,7 @@ returns-in_ok-back_at-in-Inner-clause-descends g t c =
     c.in_ok-node.node c.in-Inner.entries c.in_ok-entries-in-Inner.entries.items c.deref.result.now c.choose-place.result c.index-child.result.now
     c.args.written.now.left.items c.push.new.self.items c.descend.new.written.left.items c.args.written.now.nodes.items c.descend.new.written.nodes.items _ c.in_ok-grew-in-Inner.grew _
     (ap g.R.M.Metric.space c.choose-place.ensures.metric) (ap g.R.M.Metric.space c.descend.ensures.metric) c.own_node.ensures.same
-    (level_above (g.P.Pages.shelf c.args.pages.now).dim c.in-Inner.level c.args.spot.now.level c.in_ok-node.node c.in-Inner.entries c.in_ok-node.ensures.ok.lawful c.in-Inner.is c.if-level-spot.false)
+    (level_above (g.P.Pages.shelf c.args.pages.now).dim c.in-Inner.level c.args.spot.now.level c.in_ok-node.node c.in-Inner.entries c.in_ok-node.ensures.ok.valid c.in-Inner.is c.if-level-spot.false)
     c.if-level-spot.false
     c.in_ok-node.ensures.ok c.in-Inner.is c.in_ok-entries-in-Inner.ensures c.deref.ensures.value c.choose-place.ensures.chosen c.choose-place.ensures.place c.index-child.ensures (search rules)
     c.as_slice.result.now c.as_slice.ensures c.in_ok-grew-in-Inner.ensures.descends c.in_ok-back_at-in-Inner.ensures.staged c.in_ok-back_at-in-Inner.ensures.near

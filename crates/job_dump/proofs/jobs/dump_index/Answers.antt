@@ -43,14 +43,14 @@ returns-in-Err-Fault-clause-dumps g c =
           let line = ended.damaged is in (
             fault,
             line_follows d0 d1 head live told.opens told.version told.same out0 out2 out3 (fault_text fault) stopped.0 line.1,
-            λ tells. (
-              subst (λ (o : SinkState). Tells o out3 (fault_text fault)) (stopped.2 (subst IsTrue (sym told.same.same_tells) tells) line.0) line.1,
-              damage_before d0 d1 head live told.opens told.version told.same d2 fault line.0 stopped.1 tells,
+            λ is_known. (
+              subst (λ (o : SinkState). Tells o out3 (fault_text fault)) (stopped.2 (subst IsTrue (sym told.same.same_known) is_known) line.0) line.1,
+              damage_before d0 d1 head live told.opens told.version told.same d2 fault line.0 stopped.1 is_known,
             ),
           );
-      sound = λ tells h l sound. (
+      sound = λ is_known h l sound. (
         λ is. none_of_three r 5 8 9 6 s is (omega arith) (omega arith) (omega arith),
         λ is.
-            damaged_unsound c.one_live_slot.ensures d0.bytes fault (damage_before d0 d1 head live told.opens told.version told.same d2 fault (ended.damaged is).0 stopped.1 tells) h l sound,
+            damaged_unsound c.one_live_slot.ensures d0.bytes fault (damage_before d0 d1 head live told.opens told.version told.same d2 fault (ended.damaged is).0 stopped.1 is_known) h l sound,
       );
     }

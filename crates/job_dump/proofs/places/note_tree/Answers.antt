@@ -16,7 +16,7 @@ loop-page-init g c =
     record {
       keeps = g.met.P.Pages.keeps_none c.args.pages.now;
       long = refl;
-      way = ([], tour_begins old c.args.live.now c.in_ok-tour.tour c.in_ok-tour.ensures, λ tells. none_noted (nodes_of old.read) c.args.numbers.now c.requires.none);
+      way = ([], tour_begins old c.args.live.now c.in_ok-tour.tour c.in_ok-tour.ensures, λ is_known. none_noted (nodes_of old.read) c.args.numbers.now c.requires.none);
     }
 
 pub returns-in-Err-note_node-clause-cause : goal.returns-in-Err-note_node-clause-cause
@@ -33,7 +33,7 @@ returns-in-Err-note_node-clause-cause g c =
     let goes = tour_goes_on old live now new c.loop-page.tour way.0 way.1 c.next.new.self page c.in-Ok-Some.node opens c.next.ensures.same c.next.ensures.reads in
     many_cause c.sound_trees_are_toured.ensures live old new c.loop-page.numbers (c.loop-page.invariant.long ∙ c.requires.long) way.0 c.next.new.self.coming page node c.in-Err-note_node.id
     (told_then old now page node way.1.same is) goes.walk
-    (λ tells. c.in-Err-note_node.ensures.wrong (nodes_of old.read) (objects_on (nodes_of old.read) way.0) (told_then old now page node way.1.same is tells) (way.2 tells))
+    (λ is_known. c.in-Err-note_node.ensures.wrong (nodes_of old.read) (objects_on (nodes_of old.read) way.0) (told_then old now page node way.1.same is is_known) (way.2 is_known))
 
 pub loop-page-preserved : goal.loop-page-preserved
 loop-page-preserved g c =
@@ -51,10 +51,10 @@ loop-page-preserved g c =
       way = (
         way.0 ++ page ∷ [],
         tour_goes_on old c.args.live.now now new c.loop-page.tour way.0 way.1 c.next.new.self page c.in-Ok-Some.node opens c.next.ensures.same c.next.ensures.reads,
-        λ tells.
-            let there = told_then old now page node way.1.same is tells in
+        λ is_known.
+            let there = told_then old now page node way.1.same is is_known in
             notes_more (nodes_of old.read) c.note_node.new.numbers way.0 page node there
-            (c.in-Ok.ensures.noted (nodes_of old.read) (objects_on (nodes_of old.read) way.0) there (way.2 tells)),
+            (c.in-Ok.ensures.noted (nodes_of old.read) (objects_on (nodes_of old.read) way.0) there (way.2 is_known)),
       );
     }
 

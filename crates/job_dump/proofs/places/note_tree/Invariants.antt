@@ -11,7 +11,7 @@ invariant-loop-page g l = record {
   keeps : g.P.Pages.keeps l.fn.pages l.pages;
   long : length l.numbers ≡ length l.fn.numbers;
   way : (opened : List ℕ) × IsOnTour (g.P.Pages.shelf l.fn.pages) (g.P.Pages.shelf l.pages) l.live l.tour opened
-      × (IsTrue (g.P.Pages.shelf l.fn.pages).tells → Notes (nodes_of (g.P.Pages.shelf l.fn.pages).read) l.numbers (objects_on (nodes_of (g.P.Pages.shelf l.fn.pages).read) opened));
+      × (IsTrue (g.P.Pages.shelf l.fn.pages).is_known → Notes (nodes_of (g.P.Pages.shelf l.fn.pages).read) l.numbers (objects_on (nodes_of (g.P.Pages.shelf l.fn.pages).read) opened));
 }
 
 abbrev pub decreases-loop-page : goal.decreases-loop-page

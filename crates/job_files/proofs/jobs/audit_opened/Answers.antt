@@ -29,5 +29,5 @@ returns-clause-err g c =
     ≡ audit_fault (mix_space head.kind head.dim) (reading head.dim live.pages (g.D.Disk.state c.args.disk.now).bytes) live =
     rw (c.new-pages.ensures.version, c.new-pages.ensures.dim, c.new-pages.ensures.pages, c.new-pages.ensures.same, c.new-ruler.ensures.metric, c.space_of.ensures.kind, c.space_of.ensures.dim) refl in
     of_audit c.audit.result old new (g.D.Disk.state c.args.disk.now) _ _
-    (ap (λ d. (g.D.Disk.state d).tells) (sym c.new-pages.ensures.same)) (ap (λ d. (g.D.Disk.state d).faults) (sym c.new-pages.ensures.same)) (search rules)
+    (ap (λ d. (g.D.Disk.state d).is_known) (sym c.new-pages.ensures.same)) (ap (λ d. (g.D.Disk.state d).faults) (sym c.new-pages.ensures.same)) (search rules)
     (subst (λ (t : Option AuditFault). IfErr c.audit.result (HasAuditCause old new t)) told c.audit.ensures.err)

@@ -7,7 +7,7 @@ use Rattle.job_files.proofs.jobs.open_index.Goals as goal
 pub returns-then-head-ne2-clause-refuses : goal.returns-then-head-ne2-clause-refuses
 returns-then-head-ne2-clause-refuses g c = record {
   disk = λ is. only c.end_with.result.0 6 5 c.end_with.ensures.status is (omega arith);
-  not_index = λ is. (codes "version", c.end_with.ensures.line, λ tells. inr (c.in-Ok.head, c.in-Ok.live, c.in-Ok.ensures.ok tells, is_first c.in-Ok.head.version c.in-Ok.ensures.head.version c.if-head-ne2.true, refl));
+  not_index = λ is. (codes "version", c.end_with.ensures.line, λ is_known. inr (c.in-Ok.head, c.in-Ok.live, c.in-Ok.ensures.ok is_known, is_first c.in-Ok.head.version c.in-Ok.ensures.head.version c.if-head-ne2.true, refl));
   statuses = inr c.end_with.ensures.status;
 }
 

@@ -21,8 +21,8 @@ returns-in-Err-clause-shapes g c =
       not_index = told.refuses.not_index;
       memory = λ is. neither r 5 6 8 s is (omega arith) (omega arith);
       damaged = λ is. neither r 5 6 9 s is (omega arith) (omega arith);
-      sound = λ tells head live sound. (
-        λ is. no_index_unsound c.fault_is_not_open.ensures c.one_live_slot.ensures d0.bytes _ ((told.refuses.not_index is).2 tells) head live sound,
+      sound = λ is_known head live sound. (
+        λ is. no_index_unsound c.fault_is_not_open.ensures c.one_live_slot.ensures d0.bytes _ ((told.refuses.not_index is).2 is_known) head live sound,
         λ is. neither r 5 6 9 s is (omega arith) (omega arith),
       );
     }
@@ -46,7 +46,7 @@ returns-in-Ok-shape_opened-clause-shapes g c =
       not_index = λ is. none_of_three r 0 4 8 6 s is (omega arith) (omega arith) (omega arith);
       memory = λ is. rw c.in-Ok.ensures.silent at c.end_shaped.ensures.memory is;
       damaged = λ is. none_of_three r 0 4 8 9 s is (omega arith) (omega arith) (omega arith);
-      sound = λ tells head live sound. (
+      sound = λ is_known head live sound. (
         λ is. none_of_three r 0 4 8 6 s is (omega arith) (omega arith) (omega arith),
         λ is. none_of_three r 0 4 8 9 s is (omega arith) (omega arith) (omega arith),
       );
@@ -74,9 +74,9 @@ returns-in-Err-shape_opened-clause-shapes g c =
       damaged = λ is.
           let ended = c.end_at_page.ensures.damaged is in
           (fault, rw c.in-Ok.ensures.silent at ended.1, damage_before d0 d1 d2.faults opened.0 opened.1 fault c.in-Ok.ensures.opens c.in-Ok.ensures.version c.in-Ok.ensures.same ended.0 told.stop);
-      sound = λ tells head live sound. (
+      sound = λ is_known head live sound. (
         λ is. none_of_three r 5 8 9 6 s is (omega arith) (omega arith) (omega arith),
         λ is. damaged_unsound c.one_live_slot.ensures d0.bytes fault
-            (damage_before d0 d1 d2.faults opened.0 opened.1 fault c.in-Ok.ensures.opens c.in-Ok.ensures.version c.in-Ok.ensures.same (c.end_at_page.ensures.damaged is).0 told.stop tells) head live sound,
+            (damage_before d0 d1 d2.faults opened.0 opened.1 fault c.in-Ok.ensures.opens c.in-Ok.ensures.version c.in-Ok.ensures.same (c.end_at_page.ensures.damaged is).0 told.stop is_known) head live sound,
       );
     }

@@ -16,7 +16,7 @@ returns-clause-lines g c =
     let d = g.D.Disk.state c.args.disk.now in
     let old = disk_shelf p.version p.dim p.pages (g.D.Disk.state p.disk.now) p.asked in
     let is : IsOf old d c.args.head.now c.args.live.now = record {
-      tells = ap (λ x. (g.D.Disk.state x).tells) c.new-pages.ensures.same;
+      is_known = ap (λ x. (g.D.Disk.state x).is_known) c.new-pages.ensures.same;
       read = rw (c.new-pages.ensures.version, c.new-pages.ensures.dim, c.new-pages.ensures.pages, c.new-pages.ensures.same) refl;
       faults = ap (λ x. (g.D.Disk.state x).faults) c.new-pages.ensures.same;
     } in
@@ -30,7 +30,7 @@ returns-clause-stop g c =
     let old = disk_shelf p.version p.dim p.pages (g.D.Disk.state p.disk.now) p.asked in
     let new = disk_shelf q.version q.dim q.pages (g.D.Disk.state q.disk.now) q.asked in
     let is : IsOf old d c.args.head.now c.args.live.now = record {
-      tells = ap (λ x. (g.D.Disk.state x).tells) c.new-pages.ensures.same;
+      is_known = ap (λ x. (g.D.Disk.state x).is_known) c.new-pages.ensures.same;
       read = rw (c.new-pages.ensures.version, c.new-pages.ensures.dim, c.new-pages.ensures.pages, c.new-pages.ensures.same) refl;
       faults = ap (λ x. (g.D.Disk.state x).faults) c.new-pages.ensures.same;
     } in

@@ -23,12 +23,12 @@ returns-clause-joined g c =
     let sides : Sides trees d e a b = record {
       one = c.requires.one_space;
       left = record {
-        tells = rw (c.from_parts-left_pages.ensures, c.new-left_pages.ensures.same) refl;
+        is_known = rw (c.from_parts-left_pages.ensures, c.new-left_pages.ensures.same) refl;
         read = rw (c.from_parts-left_pages.ensures, c.new-left_pages.ensures.version, c.new-left_pages.ensures.dim, c.new-left_pages.ensures.pages, c.new-left_pages.ensures.same) refl;
         faults = rw (c.from_parts-left_pages.ensures, c.new-left_pages.ensures.same) refl;
       };
       right = record {
-        tells = rw (c.from_parts-right_pages.ensures, c.new-right_pages.ensures.same) refl;
+        is_known = rw (c.from_parts-right_pages.ensures, c.new-right_pages.ensures.same) refl;
         read = rw (c.from_parts-right_pages.ensures, c.new-right_pages.ensures.version, c.new-right_pages.ensures.dim, c.new-right_pages.ensures.pages, c.new-right_pages.ensures.same) refl;
         faults = rw (c.from_parts-right_pages.ensures, c.new-right_pages.ensures.same) refl;
       };
@@ -52,12 +52,12 @@ returns-clause-refused g c =
     let sides : Sides trees d e a b = record {
       one = c.requires.one_space;
       left = record {
-        tells = rw (c.from_parts-left_pages.ensures, c.new-left_pages.ensures.same) refl;
+        is_known = rw (c.from_parts-left_pages.ensures, c.new-left_pages.ensures.same) refl;
         read = rw (c.from_parts-left_pages.ensures, c.new-left_pages.ensures.version, c.new-left_pages.ensures.dim, c.new-left_pages.ensures.pages, c.new-left_pages.ensures.same) refl;
         faults = rw (c.from_parts-left_pages.ensures, c.new-left_pages.ensures.same) refl;
       };
       right = record {
-        tells = rw (c.from_parts-right_pages.ensures, c.new-right_pages.ensures.same) refl;
+        is_known = rw (c.from_parts-right_pages.ensures, c.new-right_pages.ensures.same) refl;
         read = rw (c.from_parts-right_pages.ensures, c.new-right_pages.ensures.version, c.new-right_pages.ensures.dim, c.new-right_pages.ensures.pages, c.new-right_pages.ensures.same) refl;
         faults = rw (c.from_parts-right_pages.ensures, c.new-right_pages.ensures.same) refl;
       };

@@ -20,7 +20,7 @@ returns c left right opened other_opened =
           let right_sound : IsSoundTree s (tree_nodes right) right.live = subst (λ (x : Space). IsSoundTree x (tree_nodes right) right.live) (one_space left.head right.head one) other_sound in
           let complete : (log : JoinLog) → judge_of left right log ≡ None → IsCompleteLog left right log = λ log none. record {
             sound = (judged log).0 none;
-            scanned = c.sound_join_logs_are_complete.ensures s (tree_nodes left) (tree_nodes right) left.live right.live log (c.heads_have_spaces.ensures left.head opened.opens.spells_head.lawful) sound right_sound ((judged log).0 none);
+            scanned = c.sound_join_logs_are_complete.ensures s (tree_nodes left) (tree_nodes right) left.live right.live log (c.heads_have_spaces.ensures left.head opened.opens.spells_head.valid) sound right_sound ((judged log).0 none);
           } in
           record {
             faultless = λ log. (complete log, λ whole. (judged log).1 whole.sound);

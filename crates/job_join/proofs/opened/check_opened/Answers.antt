@@ -4,14 +4,14 @@ use Rattle.std.proofs.lemmas.Result.{IfOk-weaker, err_from_is_err_and}
 use Rattle.outside_io.specs.declared.status.Status.{Status}
 use Rattle.job_files.specs.declared.logs.report.Report.TheVariants as report
 use Rattle.job_files.specs.Logs.Jobs.{Puts, stop_of}
-use Rattle.job_files.specs.Logs.Sayings.{Saying, on_file}
+use Rattle.job_files.specs.Logs.JobReports.{JobReport, on_file}
 use Rattle.job_files.proofs.Published.{file_stopped, file_unsound, unsound_status, file_then, sound_status}
 use Rattle.job_join.specs.Trees.{Tree, tree_of, fault_of, said_of_logs}
 use Rattle.job_join.proofs.opened.check_opened.Goals as goal
 use Rattle.outside_io.proofs.Published.{rose_before}
 
 -- what is said of the other file, and of the logs where it is sound
-abbrev on_other : Tree → Tree → List ℕ → Saying
+abbrev on_other : Tree → Tree → List ℕ → JobReport
 on_other left right bytes = on_file (codes "other") (fault_of right) (said_of_logs report.Answers left right bytes)
 
 pub returns-in_err-sound-clause-puts : goal.returns-in_err-sound-clause-puts
@@ -94,7 +94,7 @@ returns-clause-puts g c t u =
     let right : List ℕ → Tree = λ file. record { file = file; head = r.0; live = r.1 } in
     let rest = subst (λ (file : List ℕ). Puts (said_of_logs report.Answers (left file) (tree_of e0 r) bytes).texts w2 w3 (stop_of c.judge_opened.result)) same.same_bytes
     (subst (λ (file : List ℕ). Puts (said_of_logs report.Answers (tree_of d1 l) (right file) bytes).texts w2 w3 (stop_of c.judge_opened.result)) other.same_bytes
-    (c.judge_opened.ensures.puts (subst IsTrue (sym same.same_tells) t) (subst IsTrue (sym other.same_tells) u))) in
+    (c.judge_opened.ensures.puts (subst IsTrue (sym same.same_known) t) (subst IsTrue (sym other.same_known) u))) in
     let d0 = g.D.Disk.state c.args.index.now in
     file_then (codes "file") (fault_of (tree_of d0 l)) (on_other (tree_of d0 l) (tree_of e0 r) bytes) w0 w1 w3 (stop_of c.judge_opened.result) (sym (c.in_ok-sound.ensures.sound t) ∙ yes) (c.in_ok-sound.ensures.puts t)
     (file_then (codes "other") (fault_of (tree_of e0 r)) (said_of_logs report.Answers (tree_of d0 l) (tree_of e0 r) bytes) w1 w2 w3 (stop_of c.judge_opened.result) (sym (c.in_ok-other_sound.ensures.sound u) ∙ other_yes) (c.in_ok-other_sound.ensures.puts u) rest)
@@ -112,11 +112,11 @@ returns-clause-status g c =
     let e1 = g.E.Disk.state c.put_audit-2.new.disk in
     let yes : c.in_ok-sound.sound ≡ true = search rules in
     let other_yes : c.in_ok-other_sound.other_sound ≡ true = search rules in
-    let said : List ℕ → List ℕ → Saying = λ file other_file. said_of_logs report.Answers (record { file = file; head = l.0; live = l.1 }) (record { file = other_file; head = r.0; live = r.1 }) bytes in
-    IfOk-weaker c.judge_opened.result (λ (s : Status). IsTrue d1.tells → IsTrue e1.tells → s.0 ≡ (said d1.bytes e1.bytes).status) _
+    let said : List ℕ → List ℕ → JobReport = λ file other_file. said_of_logs report.Answers (record { file = file; head = l.0; live = l.1 }) (record { file = other_file; head = r.0; live = r.1 }) bytes in
+    IfOk-weaker c.judge_opened.result (λ (s : Status). IsTrue d1.is_known → IsTrue e1.is_known → s.0 ≡ (said d1.bytes e1.bytes).status) _
     (λ (s : Status) is t u.
     subst (λ (file : List ℕ). s.0 ≡ (said file e0.bytes).status) same.same_bytes
-    (subst (λ (file : List ℕ). s.0 ≡ (said d1.bytes file).status) other.same_bytes (is (subst IsTrue (sym same.same_tells) t) (subst IsTrue (sym other.same_tells) u)))
+    (subst (λ (file : List ℕ). s.0 ≡ (said d1.bytes file).status) other.same_bytes (is (subst IsTrue (sym same.same_known) t) (subst IsTrue (sym other.same_known) u)))
     ∙ sym (sound_status (codes "file") (fault_of (tree_of d0 l)) (on_file (codes "other") (fault_of (tree_of e0 r)) (said d0.bytes e0.bytes)) (sym (c.in_ok-sound.ensures.sound t) ∙ yes)
     ∙ sound_status (codes "other") (fault_of (tree_of e0 r)) (said d0.bytes e0.bytes) (sym (c.in_ok-other_sound.ensures.sound u) ∙ other_yes)))
     c.judge_opened.ensures.status

@@ -17,7 +17,7 @@ returns c file head live opens =
       λ sound.
           let complete : (log : Log) → judge_of file head live log ≡ None → IsCompleteLog file head live log = λ log none. record {
             sound = (c.faults_are_unsoundness.ensures s read live log).0 none;
-            scanned = c.sound_logs_are_complete.ensures s (nodes_of read) live log (c.heads_have_spaces.ensures head opens.spells_head.lawful) sound ((c.faults_are_unsoundness.ensures s read live log).0 none);
+            scanned = c.sound_logs_are_complete.ensures s (nodes_of read) live log (c.heads_have_spaces.ensures head opens.spells_head.valid) sound ((c.faults_are_unsoundness.ensures s read live log).0 none);
           } in
           record {
             faultless = λ log. (complete log, λ whole. (c.faults_are_unsoundness.ensures s read live log).1 whole.sound);

@@ -23,7 +23,7 @@ returns-clause-answered g c = λ sound.
     let a = c.in-Ok.ensures.searched.answer sound in
     record {
       hits = ap (λ (hits : List Hit). length hits) (c.as_slice.ensures ∙ a.hits);
-      accepted = c.in_ok-accepted.ensures.sound (rw c.search.ensures.reads.same.same_tells sound.0)
+      accepted = c.in_ok-accepted.ensures.sound (rw c.search.ensures.reads.same.same_known sound.0)
           (log_still (λ m. g.M.Metric.space m) c.args.index.now.file c.search.new.index.file (g.D.Disk.state c.args.disk.now) (g.D.Disk.state c.search.new.disk) c.head.result.dim c.live-live.result c.metric.result
           c.in-Ok.found.log c.search.ensures.reads c.metric.ensures (ap (λ h. h.dim) c.head.ensures) c.live-live.ensures
           (c.least_logs_are_sound.ensures _ _ _ _ _ a.least));

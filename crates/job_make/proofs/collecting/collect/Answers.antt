@@ -51,8 +51,8 @@ loop-page-preserved g c =
     }
 
 pub returns-clause-found : goal.returns-clause-found
-returns-clause-found g c = λ tells s sound.
+returns-clause-found g c = λ is_known s sound.
     let none : reverse c.loop-page.coming.items ≡ [] = grind (arith, common_steps, c.in_default-pop.ensures.items) in
     ends (g.P.Pages.shelf c.args.pages.now) c.args.live.now (g.P.Pages.shelf c.loop-page.pages) c.loop-page.found.items c.loop-page.opened
     (subst (λ (coming : List ℕ). IsCollecting (g.P.Pages.shelf c.args.pages.now) (g.P.Pages.shelf c.loop-page.pages) c.args.live.now c.loop-page.found.items c.loop-page.opened coming) none c.loop-page.invariant.collecting)
-    tells s sound
+    is_known s sound

@@ -15,14 +15,14 @@ returns-in-Err-Disk-clause-unfilled g c =
     c.end_with-in-Err-Disk.result.0 (g.D.Disk.state c.create.new.disk) (subst (HasCreateCause (g.D.Disk.state c.args.disk.now) (g.D.Disk.state c.create.new.disk)) c.in-Err-Disk.field-0-is c.in-Err-Disk.ensures.fault) c.create.ensures.reads c.end_with-in-Err-Disk.ensures.status c.end_with-in-Err-Disk.ensures.line
 
 pub fill-requires-clause-made : goal.fill-requires-clause-made
-fill-requires-clause-made g c = λ tells. c.in-Ok.ensures.made (subst IsTrue c.create.ensures.tells tells)
+fill-requires-clause-made g c = λ is_known. c.in-Ok.ensures.made (subst IsTrue c.create.ensures.is_known is_known)
 
 pub returns-in-Ok-fill-clause-since : goal.returns-in-Ok-fill-clause-since
 returns-in-Ok-fill-clause-since g c =
-    filled_since c.args.head.now c.args.objects.now.rows.points c.args.objects.now.tags.items (g.D.Disk.state c.args.disk.now) (g.D.Disk.state c.create.new.disk) (g.D.Disk.state c.fill.new.disk) c.create.ensures.tells
+    filled_since c.args.head.now c.args.objects.now.rows.points c.args.objects.now.tags.items (g.D.Disk.state c.args.disk.now) (g.D.Disk.state c.create.new.disk) (g.D.Disk.state c.fill.new.disk) c.create.ensures.is_known
     c.fill.ensures.moments
 
 pub returns-in-Err-clause-unfilled : goal.returns-in-Err-clause-unfilled
 returns-in-Err-clause-unfilled g c =
     unfilled c.args.head.now c.args.objects.now.rows.points c.args.objects.now.tags.items (g.D.Disk.state c.args.disk.now) (g.K.Sink.state c.args.out.now) (g.K.Sink.state c.end_unfilled.new.out) c.end_unfilled.result.0
-    (g.D.Disk.state c.create.new.disk) (g.D.Disk.state c.fill.new.disk) c.create.ensures.tells c.create.ensures.later c.in-Err.fault c.in-Err.ensures.cause c.fill.ensures.moments c.end_unfilled.ensures.ends
+    (g.D.Disk.state c.create.new.disk) (g.D.Disk.state c.fill.new.disk) c.create.ensures.is_known c.create.ensures.later c.in-Err.fault c.in-Err.ensures.cause c.fill.ensures.moments c.end_unfilled.ensures.ends

@@ -9,9 +9,9 @@ loop-log-init g c =
     record {
       same = unchanged (g.D.Disk.state c.args.index.now);
       agrees = c.requires.kept;
-      lawful = rw all c.requires.lawful;
+      valid = rw all c.requires.valid;
       counted = omega (arith, ap length all);
-      puts = λ tells. rw all (begun (g.D.Disk.state c.args.index.now).bytes c.args.opened.now.0 c.args.opened.now.1 c.args.logs.items (g.L.Sink.state c.args.log_out.now).written (g.K.Sink.state c.args.out.now).written);
+      puts = λ is_known. rw all (begun (g.D.Disk.state c.args.index.now).bytes c.args.opened.now.0 c.args.opened.now.1 c.args.logs.items (g.L.Sink.state c.args.log_out.now).written (g.K.Sink.state c.args.out.now).written);
       later = omega arith;
       out_later = omega arith;
       log_later = omega arith;
@@ -27,7 +27,7 @@ loop-log-preserved g c =
     record {
       same = then_unchanged d0 d1 (g.D.Disk.state c.carry_log.new.index) old.same now.same;
       agrees = c.in_ok-is_accepted.ensures.kept;
-      lawful = (let all = rw step at old.lawful in λ k d low. all (suc k) d (omega arith));
+      valid = (let all = rw step at old.valid in λ k d low. all (suc k) d (omega arith));
       counted = omega (arith, old.counted, ap length step);
       puts = one_more_by d0 d1 c.args.opened.now.0 c.args.opened.now.1 c.args.logs.items c.in-Some.log c.next.new.self.rest.items c.loop-log.number c.loop-log.accepted c.in_ok-is_accepted.is_accepted
           (g.L.Sink.state c.args.log_out.now).written (g.L.Sink.state c.loop-log.log_out).written (g.L.Sink.state c.carry_log.new.log_out).written

@@ -5,7 +5,7 @@ use Rattle.job_seal.proofs.carrying.carry_bytes.Goals as goal
 pub returns-in-Err : goal.returns-in-Err
 returns-in-Err g c = record {
   same = unchanged (g.D.Disk.state c.args.index.now);
-  ends = λ tells. inl (record {
+  ends = λ is_known. inl (record {
     why = c.in-Err.fault;
     fault = search rules;
     rejected = refl;

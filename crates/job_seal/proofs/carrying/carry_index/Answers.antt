@@ -6,7 +6,7 @@ use Rattle.job_seal.proofs.Telling.{halted, stopped_at, output_later, done_is_no
 use Rattle.job_seal.proofs.carrying.carry_index.Goals as goal
 
 pub returns-in-Err-carry_opened-clause-halted : goal.returns-in-Err-carry_opened-clause-halted
-returns-in-Err-carry_opened-clause-halted g c = λ tells.
+returns-in-Err-carry_opened-clause-halted g c = λ is_known.
     let d0 = g.D.Disk.state c.args.index.now in
     let opened = c.in-Ok.opened in
     let why = c.in-Err-carry_opened.why in
@@ -15,10 +15,10 @@ returns-in-Err-carry_opened-clause-halted g c = λ tells.
     let s1 = g.K.Sink.state c.carry_opened.new.out in
     let same = c.in-Ok.ensures.same in
     let stops = subst (λ (file : List ℕ). Stops file opened.0 opened.1 c.args.bytes.now why l0 l1 (g.K.Sink.state c.open_small.new.out).written s1.written) same.same_bytes
-    (c.in-Err-carry_opened.ensures.stops (subst IsTrue (sym same.same_tells) tells)) in
+    (c.in-Err-carry_opened.ensures.stops (subst IsTrue (sym same.same_known) is_known)) in
     let before = rw c.in-Ok.ensures.silent at stops in
     halted d0.bytes c.args.bytes.now opened.0 opened.1 why l0 l1 (g.K.Sink.state c.args.out.now) s1 (g.K.Sink.state c.end_stopped.new.out) c.end_stopped.result.0
-    (c.in-Ok.ensures.opens tells) before (rw c.in-Ok.ensures.silent at c.in-Err-carry_opened.ensures.out_later) c.end_stopped.ensures.ends
+    (c.in-Ok.ensures.opens is_known) before (rw c.in-Ok.ensures.silent at c.in-Err-carry_opened.ensures.out_later) c.end_stopped.ensures.ends
 
 pub returns-in-Err-carry_opened-clause-statuses : goal.returns-in-Err-carry_opened-clause-statuses
 returns-in-Err-carry_opened-clause-statuses g c = (stopped_at c.in-Err-carry_opened.why _ _ c.end_stopped.result.0 c.end_stopped.ensures.ends).statuses

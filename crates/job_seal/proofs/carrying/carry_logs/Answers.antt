@@ -20,7 +20,7 @@ returns-in-Err-clause-carries g c =
       all = λ a b few. absurd (⊎_elim a (λ rest. ⊎_elim (λ is. let more = unread.long.0 is in omega (arith, more, few)) b rest) s);
       unchanged = unchanged d;
       done = λ either. ⊎_elim (λ is. of_three r 3 7 8 0 s is (omega arith) (omega arith) (omega arith)) (λ is. of_three r 3 7 8 1 s is (omega arith) (omega arith) (omega arith)) either;
-      halted = λ tells. halted_before d.bytes unread.bytes l out0 out1 r (λ is. of_three r 3 7 8 4 s is (omega arith) (omega arith) (omega arith)) (λ is. of_three r 3 7 8 5 s is (omega arith) (omega arith) (omega arith)) unread.memory_line;
+      halted = λ is_known. halted_before d.bytes unread.bytes l out0 out1 r (λ is. of_three r 3 7 8 4 s is (omega arith) (omega arith) (omega arith)) (λ is. of_three r 3 7 8 5 s is (omega arith) (omega arith) (omega arith)) unread.memory_line;
       input_line = unread.input_line;
       no_frame = λ refusal. refl;
       not_index = λ is. of_three r 3 7 8 6 s is (omega arith) (omega arith) (omega arith);

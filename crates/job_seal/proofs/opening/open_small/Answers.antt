@@ -25,7 +25,7 @@ returns-then-live-gt-MOST_WHOLE_PAGES-clause-refuses g c =
       not_index = λ is. only r 7 6 status is (omega arith);
       long = λ is. (
         rw old.silent at c.end_with.ensures.line,
-        λ tells. (c.in_ok-head.head, c.in_ok-head.live, old.opens tells, c.if-live-gt-MOST_WHOLE_PAGES.true),
+        λ is_known. (c.in_ok-head.head, c.in_ok-head.live, old.opens is_known, c.if-live-gt-MOST_WHOLE_PAGES.true),
       );
       statuses = inr (inr status);
     }

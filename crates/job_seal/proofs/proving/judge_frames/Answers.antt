@@ -99,7 +99,7 @@ frames-preserved g c =
     record {
       shown = subst (λ (room : ℕ). Progress c.args.root.now (g.S.Source.left c.args.log_in.now) (g.S.Source.left c.next_frame.new.source) room (c.frames.frame + 1) (c.frames.accepted && c.in_ok-is_accepted.is_accepted)
           (g.K.Sink.state c.args.out.now).written (g.K.Sink.state c.judge_frame.new.out).written) left step;
-      counted = (let before = c.frames.invariant.counted in let fits = reads.1 in omega (arith, before, fits));
+      counted = (let before = c.frames.invariant.counted in let is_point = reads.1 in omega (arith, before, is_point));
       input_later = omega (arith, c.frames.invariant.input_later, c.in_ok-body.ensures.later);
       later = omega (arith, c.frames.invariant.later, c.judge_frame.ensures.later);
     }

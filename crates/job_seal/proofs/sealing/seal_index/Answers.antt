@@ -29,7 +29,7 @@ returns-in-Ok-audit_opened-clause-seals g c =
       not_index = λ is. none_of_four r 0 4 5 8 6 ends.statuses is (omega arith) (omega arith) (omega arith) (omega arith);
       long = λ is. none_of_four r 0 4 5 8 7 ends.statuses is (omega arith) (omega arith) (omega arith) (omega arith);
       memory = λ is. rw c.in-Ok.ensures.silent at ends.memory is;
-      large = λ is tells. not_large d0.bytes opened.0 opened.1 (c.in-Ok.ensures.opens tells) c.in-Ok.ensures.few;
+      large = λ is is_known. not_large d0.bytes opened.0 opened.1 (c.in-Ok.ensures.opens is_known) c.in-Ok.ensures.few;
     }
 
 pub returns-in-Err-audit_opened-clause-seals : goal.returns-in-Err-audit_opened-clause-seals
@@ -43,7 +43,7 @@ returns-in-Err-audit_opened-clause-seals g c =
     let told = audit_fault (mix_space opened.0.kind opened.0.dim) (reading opened.0.dim opened.1.pages d1.bytes) opened.1 in
     let r = c.end_rejected.result.0 in
     let s = c.end_rejected.ensures.statuses in
-    let before : (IsPassing fault → ⊥) → IsTrue d0.tells → IsAudited d0.bytes (Some fault) = λ kind. audited_before d0 d1 opened.0 opened.1 (Some fault) c.in-Ok.ensures.opens c.in-Ok.ensures.version c.in-Ok.ensures.same (told_by d1 d2.faults told fault kind cause.err) in
+    let before : (IsPassing fault → ⊥) → IsTrue d0.is_known → IsAudited d0.bytes (Some fault) = λ kind. audited_before d0 d1 opened.0 opened.1 (Some fault) c.in-Ok.ensures.opens c.in-Ok.ensures.version c.in-Ok.ensures.same (told_by d1 d2.faults told fault kind cause.err) in
     record {
       unchanged = then_unchanged d0 d1 d2 c.in-Ok.ensures.same cause.same;
       sealed = λ is. none_of_four r 1 4 5 8 0 s is (omega arith) (omega arith) (omega arith) (omega arith);
@@ -55,5 +55,5 @@ returns-in-Err-audit_opened-clause-seals g c =
       not_index = λ is. none_of_four r 1 4 5 8 6 s is (omega arith) (omega arith) (omega arith) (omega arith);
       long = λ is. none_of_four r 1 4 5 8 7 s is (omega arith) (omega arith) (omega arith) (omega arith);
       memory = λ is. rw c.in-Ok.ensures.silent at c.end_rejected.ensures.memory is;
-      large = λ is tells. not_large d0.bytes opened.0 opened.1 (c.in-Ok.ensures.opens tells) c.in-Ok.ensures.few;
+      large = λ is is_known. not_large d0.bytes opened.0 opened.1 (c.in-Ok.ensures.opens is_known) c.in-Ok.ensures.few;
     }

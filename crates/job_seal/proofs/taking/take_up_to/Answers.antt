@@ -19,7 +19,7 @@ pub returns-in_err-extend_from_slice-clause-stops : goal.returns-in_err-extend_f
 returns-in_err-extend_from_slice-clause-stops g c =
     let p = err_from_is_err_and c.from_residual.result c.from_residual.ensures.1 in
     rw (p.1, p.2)
-    (let fits = c.if-count-room.false in
+    (let is_point = c.if-count-room.false in
     let within = c.pieces.invariant.within in (
       c.pieces.bytes.items ++ take c.in-Ok.count c.take.new.buf,
       Consumes-trans _ _ _ _ _ c.pieces.invariant.taken c.in-Ok.ensures.bytes.0,

@@ -12,7 +12,7 @@ loop-log-init g c =
     record {
       same = holds_none (g.P.Pages.shelf c.args.pages.now);
       keeps = g.met.P.Pages.keeps_none c.args.pages.now;
-      lawful = rw all c.requires;
+      valid = rw all c.requires;
       counted = omega (arith, ap length all);
       puts = λ t. rw all (begun _ (g.K.Sink.state c.args.out.now).written);
       sound = λ t. rw all refl;
@@ -20,7 +20,7 @@ loop-log-init g c =
     }
 
 pub returns-in_err-is_sound-clause-puts : goal.returns-in_err-is_sound-clause-puts
-returns-in_err-is_sound-clause-puts g c tells =
+returns-in_err-is_sound-clause-puts g c is_known =
     let p = err_from_is_err_and c.from_residual.result c.from_residual.ensures.1 in
     let old = c.loop-log.invariant in
     let texts = texts_by c.args.view.now (g.P.Pages.shelf c.args.pages.now).read 0 c.args.logs.items in
@@ -29,7 +29,7 @@ returns-in_err-is_sound-clause-puts g c tells =
     let w2 = (g.K.Sink.state c.show_frame.new.out).written in
     rw (p.1, p.2)
     (frame_stopped c.args.view.now (g.P.Pages.shelf c.args.pages.now) (g.P.Pages.shelf c.loop-log.pages) old.same c.loop-log.frame c.in-Some.log c.next.new.self.rest.items texts w0 w1 w2
-    c.in_err-is_sound.field-0.0 (rw c.in-Some.ensures.steps.0 at old.puts tells) (c.in_err-is_sound.ensures.puts (rw old.same.tells tells)))
+    c.in_err-is_sound.field-0.0 (rw c.in-Some.ensures.steps.0 at old.puts is_known) (c.in_err-is_sound.ensures.puts (rw old.same.is_known is_known)))
 
 pub loop-log-preserved : goal.loop-log-preserved
 loop-log-preserved g c =
@@ -45,9 +45,9 @@ loop-log-preserved g c =
     record {
       same = holds_both first now _ old.same c.show_frame.ensures.same;
       keeps = g.met.P.Pages.keeps_both c.args.pages.now c.loop-log.pages c.show_frame.new.pages old.keeps c.show_frame.ensures.keeps;
-      lawful = (let all = rw step at old.lawful in λ k d low. all (suc k) d (omega arith));
+      valid = (let all = rw step at old.valid in λ k d low. all (suc k) d (omega arith));
       counted = omega (arith, old.counted, ap length step);
-      puts = λ t. frame_put c.args.view.now first now old.same c.loop-log.frame c.in-Some.log c.next.new.self.rest.items texts w0 w1 w2 (rw step at old.puts t) (told.puts (rw old.same.tells t));
-      sound = λ t. frame_sound c.args.view.now first now old.same c.loop-log.frame c.in-Some.log c.next.new.self.rest.items _ c.loop-log.sound c.in_ok-is_sound.is_sound (rw step at old.sound t) (told.sound (rw old.same.tells t));
+      puts = λ t. frame_put c.args.view.now first now old.same c.loop-log.frame c.in-Some.log c.next.new.self.rest.items texts w0 w1 w2 (rw step at old.puts t) (told.puts (rw old.same.is_known t));
+      sound = λ t. frame_sound c.args.view.now first now old.same c.loop-log.frame c.in-Some.log c.next.new.self.rest.items _ c.loop-log.sound c.in_ok-is_sound.is_sound (rw step at old.sound t) (told.sound (rw old.same.is_known t));
       later = omega (arith, old.later, c.show_frame.ensures.later);
     }

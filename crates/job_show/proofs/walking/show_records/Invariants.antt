@@ -13,7 +13,7 @@ invariant-loop-told g l = record {
   keeps : g.P.Pages.keeps l.fn.pages l.pages;
   depths : AreUpTo l.told-index (reverse l.walk.stack.items);
   few : AreFew l.told-index l.walk.counts;
-  way : IsTrue (g.P.Pages.shelf l.fn.pages).tells →
+  way : IsTrue (g.P.Pages.shelf l.fn.pages).is_known →
       shown_then l.walk (shown (search_by l.gauge) (g.P.Pages.shelf l.fn.pages).read (reverse l.walk.stack.items) (drop l.told-index l.records))
       ≡ shown (search_by l.gauge) (g.P.Pages.shelf l.fn.pages).read (root_coming l.root ∷ []) l.records;
 }

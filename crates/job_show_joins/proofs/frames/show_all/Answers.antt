@@ -1,7 +1,7 @@
 use Rattle.std.proofs.Common.{◌≡◌, ◌∙◌, ℕ, List, [], ◌∷◌, ap, subst, Some, None}
 use Rattle.std.proofs.lemmas.Result.{err_from_is_err_and}
 use Rattle.job_files.specs.declared.logs.report.Report.TheVariants as report
-use Rattle.job_files.specs.Logs.Sayings.{are_sound, end_text}
+use Rattle.job_files.specs.Logs.JobReports.{are_sound, end_text}
 use Rattle.job_files.specs.Logs.Jobs.{Puts}
 use Rattle.job_show_joins.specs.Steps.{fault_by}
 use Rattle.job_show.proofs.Published.{both_put, stopped_put}

@@ -13,7 +13,7 @@ loop-log-init g c =
       same = hold_none (g.P.Pages.shelf c.args.left.now) (g.Q.Pages.shelf c.args.right.now);
       left_keeps = g.met.P.Pages.keeps_none c.args.left.now;
       right_keeps = g.met.Q.Pages.keeps_none c.args.right.now;
-      lawful = rw all c.requires;
+      valid = rw all c.requires;
       counted = omega (arith, ap length all);
       puts = λ t u. rw all (begun _ (g.K.Sink.state c.args.out.now).written);
       sound = λ t u. rw all refl;
@@ -26,7 +26,7 @@ returns-in_err-is_sound-clause-puts g c t u =
     let old = c.loop-log.invariant in
     rw (p.1, p.2)
     (frame_stopped c.args.view.now (g.P.Pages.shelf c.args.left.now) (g.P.Pages.shelf c.loop-log.left) (g.Q.Pages.shelf c.args.right.now) (g.Q.Pages.shelf c.loop-log.right) old.same c.loop-log.frame c.in-Some.log c.next.new.self.rest.items _ _ _ _
-    c.in_err-is_sound.field-0.0 (rw c.in-Some.ensures.steps.0 at old.puts t u) (c.in_err-is_sound.ensures.puts (rw old.same.left.tells t) (rw old.same.right.tells u)))
+    c.in_err-is_sound.field-0.0 (rw c.in-Some.ensures.steps.0 at old.puts t u) (c.in_err-is_sound.ensures.puts (rw old.same.left.is_known t) (rw old.same.right.is_known u)))
 
 pub loop-log-preserved : goal.loop-log-preserved
 loop-log-preserved g c =
@@ -41,10 +41,10 @@ loop-log-preserved g c =
       same = hold_both l lm _ r rm _ old.same c.show_frame.ensures.same;
       left_keeps = g.met.P.Pages.keeps_both c.args.left.now c.loop-log.left c.show_frame.new.left old.left_keeps c.show_frame.ensures.left_keeps;
       right_keeps = g.met.Q.Pages.keeps_both c.args.right.now c.loop-log.right c.show_frame.new.right old.right_keeps c.show_frame.ensures.right_keeps;
-      lawful = (let all = rw step at old.lawful in λ k d low. all (suc k) d (omega arith));
+      valid = (let all = rw step at old.valid in λ k d low. all (suc k) d (omega arith));
       counted = omega (arith, old.counted, ap length step);
-      puts = λ t u. frame_put c.args.view.now l lm r rm old.same c.loop-log.frame c.in-Some.log c.next.new.self.rest.items _ _ _ _ (rw step at old.puts t u) (told.puts (rw old.same.left.tells t) (rw old.same.right.tells u));
-      sound = λ t u. frame_sound c.args.view.now l lm r rm old.same c.loop-log.frame c.in-Some.log c.next.new.self.rest.items _ c.loop-log.sound c.in_ok-is_sound.is_sound (rw step at old.sound t u) (told.sound (rw old.same.left.tells t) (rw old.same.right.tells u));
+      puts = λ t u. frame_put c.args.view.now l lm r rm old.same c.loop-log.frame c.in-Some.log c.next.new.self.rest.items _ _ _ _ (rw step at old.puts t u) (told.puts (rw old.same.left.is_known t) (rw old.same.right.is_known u));
+      sound = λ t u. frame_sound c.args.view.now l lm r rm old.same c.loop-log.frame c.in-Some.log c.next.new.self.rest.items _ c.loop-log.sound c.in_ok-is_sound.is_sound (rw step at old.sound t u) (told.sound (rw old.same.left.is_known t) (rw old.same.right.is_known u));
       later = omega (arith, old.later, c.show_frame.ensures.later);
     }
 

@@ -16,7 +16,7 @@ invariant-loop-told g l = record {
   depths : AreUpTo l.told-index (reverse l.walk.stack.items);
   few : AreFew l.told-index l.walk.counts;
   measured : l.walk.measured ≤ 64 * l.told-index;
-  way : IsTrue (g.P.Pages.shelf l.fn.left).tells → IsTrue (g.Q.Pages.shelf l.fn.right).tells →
+  way : IsTrue (g.P.Pages.shelf l.fn.left).is_known → IsTrue (g.Q.Pages.shelf l.fn.right).is_known →
       then_shown (search_by l.search) l.walk (g.P.Pages.shelf l.fn.left).read (g.Q.Pages.shelf l.fn.right).read (drop l.told-index l.records)
       ≡ shown (search_by l.search) (g.P.Pages.shelf l.fn.left).read (g.Q.Pages.shelf l.fn.right).read (reverse l.fn.begun.stack.items) l.records;
 }

@@ -20,9 +20,9 @@ returns-in-Err-clause-stats g c =
       not_index = told.refuses.not_index;
       memory = λ is. neither r 5 6 8 s is (omega arith) (omega arith);
       damaged = λ is. neither r 5 6 9 s is (omega arith) (omega arith);
-      sound = λ tells head live sound. (
+      sound = λ is_known head live sound. (
         λ is.
-            let named = (told.refuses.not_index is).2 tells in
+            let named = (told.refuses.not_index is).2 is_known in
             no_index_unsound c.fault_is_not_open.ensures c.one_live_slot.ensures d0.bytes _ named head live sound,
         λ is. neither r 5 6 9 s is (omega arith) (omega arith),
       );
@@ -49,7 +49,7 @@ returns-in-Ok-shape_opened-clause-stats g c =
       not_index = λ is. none_of_three r 0 4 8 6 s is (omega arith) (omega arith) (omega arith);
       memory = λ is. rw first.silent at c.end_told.ensures.memory is;
       damaged = λ is. none_of_three r 0 4 8 9 s is (omega arith) (omega arith) (omega arith);
-      sound = λ tells head live sound. (
+      sound = λ is_known head live sound. (
         λ is. none_of_three r 0 4 8 6 s is (omega arith) (omega arith) (omega arith),
         λ is. none_of_three r 0 4 8 9 s is (omega arith) (omega arith) (omega arith),
       );
@@ -81,8 +81,8 @@ returns-in-Err-shape_opened-clause-stats g c =
       damaged = λ is.
           let ended = c.end_at_page.ensures.damaged is in
           (fault, rw first.silent at ended.1, before ended.0);
-      sound = λ tells head live sound. (
+      sound = λ is_known head live sound. (
         λ is. none_of_three r 5 8 9 6 s is (omega arith) (omega arith) (omega arith),
-        λ is. damaged_unsound c.one_live_slot.ensures d0.bytes fault (before (c.end_at_page.ensures.damaged is).0 tells) head live sound,
+        λ is. damaged_unsound c.one_live_slot.ensures d0.bytes fault (before (c.end_at_page.ensures.damaged is).0 is_known) head live sound,
       );
     }

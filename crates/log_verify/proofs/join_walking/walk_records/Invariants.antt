@@ -22,7 +22,7 @@ invariant-loop-told g l = record {
   taken : l.walk.taken ≡ l.told-index;
   asked : AskBothUpTo (g.P.Pages.shelf l.fn.left) (g.P.Pages.shelf l.left) (g.Q.Pages.shelf l.fn.right) (g.Q.Pages.shelf l.right) l.told-index;
   counted : CountsUpTo (g.R.Ruler.used l.fn.ruler) (g.R.Ruler.used l.ruler) (join_measured (take l.told-index l.records));
-  way : IsTrue (g.P.Pages.shelf l.fn.left).tells → IsTrue (g.Q.Pages.shelf l.fn.right).tells →
+  way : IsTrue (g.P.Pages.shelf l.fn.left).is_known → IsTrue (g.Q.Pages.shelf l.fn.right).is_known →
       join_walked (search_within (g.R.M.Metric.space (g.R.Ruler.metric l.fn.ruler)) l.fn.begun.rho) (g.P.Pages.shelf l.fn.left).read (g.Q.Pages.shelf l.fn.right).read l.walk.named.hits.items (reverse l.walk.stack.items) (drop l.told-index l.records) l.walk.taken
       ≡ join_walked (search_within (g.R.M.Metric.space (g.R.Ruler.metric l.fn.ruler)) l.fn.begun.rho) (g.P.Pages.shelf l.fn.left).read (g.Q.Pages.shelf l.fn.right).read l.fn.begun.named.hits.items (reverse l.fn.begun.stack.items) l.records 0;
 }

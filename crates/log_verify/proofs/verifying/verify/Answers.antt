@@ -19,8 +19,8 @@ returns-in_err-hits-clause-complete g c =
     let f : Search = search_at s c.point_of-point.result.now c.radius_of.result in
     let searches : f ≡ search_for s c.args.log.now.query c.args.log.now.answers = cc (c.point_of-point.ensures, c.radius_of.ensures, c.as_slice.ensures) in
     rw (p.1, p.2)
-    (λ tells wise. passing old (g.P.Pages.shelf c.walk_records.new.pages) c.in_err-hits.field-0.0 (walked f old.read [] (root_need c.args.live.now.root ∷ []) c.as_slice-records.result.now 0 ≡ Err c.in_err-hits.field-0.0)
-    c.in_err-hits.ensures.cause tells
+    (λ is_known wise. passing old (g.P.Pages.shelf c.walk_records.new.pages) c.in_err-hits.field-0.0 (walked f old.read [] (root_need c.args.live.now.root ∷ []) c.as_slice-records.result.now 0 ≡ Err c.in_err-hits.field-0.0)
+    c.in_err-hits.ensures.cause is_known
     (λ fault. sound_walks s old.read c.args.live.now c.args.log.now f c.in_err-hits.field-0.0 searches wise
     (ap (λ (rs : List Record). walked f old.read [] (root_need c.args.live.now.root ∷ []) rs 0) (sym c.as_slice-records.ensures) ∙ fault)))
 
@@ -34,10 +34,10 @@ returns-in-None-clause-sound g c =
     let same2 : first_difference 0 c.args.log.now.answers (selected c.args.log.now.query c.in_ok-hits.hits.items) ≡ None =
     ap (λ (xs : List Hit). first_difference 0 xs (selected c.args.log.now.query c.in_ok-hits.hits.items)) (sym c.as_slice-2.ensures)
     ∙ ap (first_difference 0 c.as_slice-2.result.now) (sym (c.as_slice-3.ensures.value ∙ c.select.ensures)) ∙ same in
-    λ tells. sound_from_none s old.read c.args.live.now c.args.log.now
+    λ is_known. sound_from_none s old.read c.args.live.now c.args.log.now
     (fault_differs s old.read c.args.live.now c.args.log.now f c.in_ok-hits.hits.items None searches c.if-log-live.false c.if-log-live-2.false
-    (ap s.fits (sym c.point_of-point.ensures) ∙ sym c.fits.ensures ∙ c.if-not-fits.false)
-    (ap (λ (rs : List Record). walked f old.read [] (root_need c.args.live.now.root ∷ []) rs 0) (sym c.as_slice-records.ensures) ∙ c.in_ok-hits.ensures.ok tells) same2)
+    (ap s.is_point (sym c.point_of-point.ensures) ∙ sym c.is_point.ensures ∙ c.if-not-is_point.false)
+    (ap (λ (rs : List Record). walked f old.read [] (root_need c.args.live.now.root ∷ []) rs 0) (sym c.as_slice-records.ensures) ∙ c.in_ok-hits.ensures.ok is_known) same2)
 
 pub returns-clause-cause : goal.returns-clause-cause
 returns-clause-cause g c =
@@ -50,13 +50,13 @@ returns-clause-cause g c =
     ap (λ (xs : List Hit). first_difference 0 xs (selected c.args.log.now.query c.in_ok-hits.hits.items)) (sym c.as_slice-2.ensures)
     ∙ ap (first_difference 0 c.as_slice-2.result.now) (sym (c.as_slice-3.ensures.value ∙ c.select.ensures)) ∙ differs in
     difference_cause old (g.P.Pages.shelf c.walk_records.new.pages) c.in-Some.verdict (log_fault s old.read c.args.live.now c.args.log.now ≡ Some c.in-Some.verdict) 0 c.as_slice-2.result.now c.as_slice-3.result.now differs
-    (λ tells. fault_differs s old.read c.args.live.now c.args.log.now f c.in_ok-hits.hits.items (Some c.in-Some.verdict) searches c.if-log-live.false c.if-log-live-2.false
-    (ap s.fits (sym c.point_of-point.ensures) ∙ sym c.fits.ensures ∙ c.if-not-fits.false)
-    (ap (λ (rs : List Record). walked f old.read [] (root_need c.args.live.now.root ∷ []) rs 0) (sym c.as_slice-records.ensures) ∙ c.in_ok-hits.ensures.ok tells) differs2)
+    (λ is_known. fault_differs s old.read c.args.live.now c.args.log.now f c.in_ok-hits.hits.items (Some c.in-Some.verdict) searches c.if-log-live.false c.if-log-live-2.false
+    (ap s.is_point (sym c.point_of-point.ensures) ∙ sym c.is_point.ensures ∙ c.if-not-is_point.false)
+    (ap (λ (rs : List Record). walked f old.read [] (root_need c.args.live.now.root ∷ []) rs 0) (sym c.as_slice-records.ensures) ∙ c.in_ok-hits.ensures.ok is_known) differs2)
 
 pub returns-clause-complete : goal.returns-clause-complete
 returns-clause-complete g c =
     let s : Space = g.R.M.Metric.space (g.R.Ruler.metric c.args.ruler.now) in
     let old : Shelf = g.P.Pages.shelf c.args.pages.now in
-    λ tells wise. passing old (g.P.Pages.shelf c.walk_records.new.pages) c.in-Some.verdict (log_fault s old.read c.args.live.now c.args.log.now ≡ Some c.in-Some.verdict)
-    (returns-clause-cause g c) tells (sound_faults s old.read c.args.live.now c.args.log.now c.in-Some.verdict wise)
+    λ is_known wise. passing old (g.P.Pages.shelf c.walk_records.new.pages) c.in-Some.verdict (log_fault s old.read c.args.live.now c.args.log.now ≡ Some c.in-Some.verdict)
+    (returns-clause-cause g c) is_known (sound_faults s old.read c.args.live.now c.args.log.now c.in-Some.verdict wise)

@@ -18,7 +18,7 @@ invariant-loop-told g l = record {
   reads : (g.P.Pages.shelf l.pages).reads ≤ (g.P.Pages.shelf l.fn.pages).reads + l.told-index;
   counted : g.R.Ruler.used l.ruler ≡ count_up (g.R.Ruler.used l.fn.ruler) (measured (take l.told-index l.records));
   taken : l.walk.taken ≡ l.told-index;
-  way : IsTrue (g.P.Pages.shelf l.fn.pages).tells →
+  way : IsTrue (g.P.Pages.shelf l.fn.pages).is_known →
       walked (search_at (g.R.M.Metric.space (g.R.Ruler.metric l.fn.ruler)) l.probe.q.now l.probe.rho) (g.P.Pages.shelf l.fn.pages).read l.walk.hits.items (reverse l.walk.stack.items) (drop l.told-index l.records) l.walk.taken
       ≡ walked (search_at (g.R.M.Metric.space (g.R.Ruler.metric l.fn.ruler)) l.probe.q.now l.probe.rho) (g.P.Pages.shelf l.fn.pages).read [] (root_need l.root ∷ []) l.records 0;
 }

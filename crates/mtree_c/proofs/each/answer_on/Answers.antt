@@ -34,7 +34,7 @@ returns-clause-same c =
     record {
       opens = opened.opens;
       version = opened.version;
-      lawful = opened.lawful;
+      valid = opened.valid;
       few = opened.few;
       behind = pages_of (mix_kind c.space_of.result) (mix_dim c.space_of.result) c.args.opened.now.0 c.args.opened.now.1 c.space_of.ensures.kind c.space_of.ensures.dim (bytes_in c.args.pages.now.inner.image)
           c.outcome_of.new.pages c.outcome_of.ensures.same;

@@ -13,7 +13,7 @@ pub returns-in_err-answer-clause-unanswered : goal.returns-in_err-answer-clause-
 returns-in_err-answer-clause-unanswered c =
     let file = bytes_in c.args.pages.now.inner.image in
     let head = c.args.opened.now.0 in
-    let point = c.row_of.ensures ∙ ap (λ (w : ℕ). take w (drop (c.loop-i.i * w) c.args.points.now)) c.from-words.ensures in
+    let point = c.row_of.ensures ∙ ap (λ (w : ℕ). take w (drop (c.loop-i.i * w) c.args.points.now)) c.from-dimension.ensures in
     let status = c.in_err-answer.field-0.0 in
     let none =
     subst (λ (p : List ℕ). HasNoAnswer file (command_of c.args.ask p) status) point
@@ -28,7 +28,7 @@ loop-i-preserved c =
     let head = c.args.opened.now.0 in
     let a = c.in_ok-answer.answer in
     let bytes = c.loop-i.invariant.opened.behind.bytes in
-    let point = c.row_of.ensures ∙ ap (λ (w : ℕ). take w (drop (c.loop-i.i * w) c.args.points.now)) c.from-words.ensures in
+    let point = c.row_of.ensures ∙ ap (λ (w : ℕ). take w (drop (c.loop-i.i * w) c.args.points.now)) c.from-dimension.ensures in
     let comes =
     subst (λ (p : List ℕ). ComesTo file (command_of c.args.ask p) (outcome.Done (reply.Hits a.hits a.tags) (Some a.log))) point
     (subst (λ (x : List ℕ). ComesTo x (command_of c.args.ask c.row_of.result.now) (outcome.Done (reply.Hits a.hits a.tags) (Some a.log))) bytes c.in_ok-answer.ensures.answered) in

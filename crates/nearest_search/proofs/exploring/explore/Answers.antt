@@ -20,18 +20,18 @@ loop-next-init g c = record {
 }
 
 pub returns-then-opened-live-clause-sound : goal.returns-then-opened-live-clause-sound
-returns-then-opened-live-clause-sound g c tells sound =
+returns-then-opened-live-clause-sound g c is_known sound =
     explore_room (g.R.M.Metric.space (g.R.Ruler.metric c.args.ruler.now)) (g.met.R.Ruler.axioms c.args.ruler.now) (g.P.Pages.shelf c.args.pages.now) c.args.live.now c.args.q.now c.requires.point c.args.machine.now.best.k (g.R.Ruler.used c.args.ruler.now)
     (g.P.Pages.shelf c.loop-next.pages) (record { queue = c.loop-next.machine.frontier; best = heap_items c.loop-next.machine.best.heap; kept = kept_seen c.loop-next.machine.kept; used = g.R.Ruler.used c.loop-next.ruler }) c.loop-next.opened
     c.loop-next.invariant.exploring c.radius-rho.result (subst (λ (k : ℕ). IsRadius k (heap_items c.loop-next.machine.best.heap) c.radius-rho.result) c.loop-next.invariant.count c.radius-rho.ensures)
-    c.in-Some.next c.take_next.new.self c.in-Some.ensures.some c.if-opened-live.true tells sound
+    c.in-Some.next c.take_next.new.self c.in-Some.ensures.some c.if-opened-live.true is_known sound
 
 pub returns-in-Err-clause-sound : goal.returns-in-Err-clause-sound
-returns-in-Err-clause-sound g c tells sound =
+returns-in-Err-clause-sound g c is_known sound =
     explore_passes (g.R.M.Metric.space (g.R.Ruler.metric c.args.ruler.now)) (g.met.R.Ruler.axioms c.args.ruler.now) (g.P.Pages.shelf c.args.pages.now) c.args.live.now c.args.q.now c.requires.point c.args.machine.now.best.k (g.R.Ruler.used c.args.ruler.now)
     (g.P.Pages.shelf c.loop-next.pages) (record { queue = c.loop-next.machine.frontier; best = heap_items c.loop-next.machine.best.heap; kept = kept_seen c.loop-next.machine.kept; used = g.R.Ruler.used c.loop-next.ruler }) c.loop-next.opened
     c.loop-next.invariant.exploring c.radius-rho.result (subst (λ (k : ℕ). IsRadius k (heap_items c.loop-next.machine.best.heap) c.radius-rho.result) c.loop-next.invariant.count c.radius-rho.ensures)
-    c.in-Some.next c.take_next.new.self c.in-Some.ensures.some (g.P.Pages.shelf c.open_page.new.pages) c.in-Err.fault c.in-Err.ensures.cause tells sound
+    c.in-Some.next c.take_next.new.self c.in-Some.ensures.some (g.P.Pages.shelf c.open_page.new.pages) c.in-Err.fault c.in-Err.ensures.cause is_known sound
 
 pub returns-then-opened-live-clause-cause : goal.returns-then-opened-live-clause-cause
 returns-then-opened-live-clause-cause g c =

@@ -15,7 +15,7 @@ returns-clause-log g c =
     c.in_ok-of.ensures.answers c.in_ok-of.ensures.hits
 
 pub returns-clause-nearest : goal.returns-clause-nearest
-returns-clause-nearest g c tells sound =
+returns-clause-nearest g c is_known sound =
     nearest_ends (g.R.M.Metric.space (g.R.Ruler.metric c.args.ruler.now)) (g.met.R.Ruler.axioms c.args.ruler.now) (g.P.Pages.shelf c.args.pages.now) c.args.live.now c.args.q.now c.requires.point c.args.k (g.R.Ruler.used c.args.ruler.now)
     c.requires.some (g.P.Pages.shelf c.explore.new.pages)
     (record { queue = c.explore.new.machine.frontier; best = heap_items c.explore.new.machine.best.heap; kept = kept_seen c.explore.new.machine.kept; used = g.R.Ruler.used c.explore.new.ruler })
@@ -25,10 +25,10 @@ returns-clause-nearest g c tells sound =
     c.in_ok-explored.explored.rho c.in_ok-explored.explored.opened (g.R.Ruler.used c.args.ruler.now)) c.in_ok-machine.ensures.count c.in_ok-explored.ensures.ok)
     c.in_ok-walk.walk.records.items c.in_ok-walk.walk.hits.items
     c.in_ok-walk.ensures
-    c.in_ok-of.field-0 c.in_ok-of.ensures.records c.in_ok-of.ensures.answers (returns-clause-log g c) tells sound
+    c.in_ok-of.field-0 c.in_ok-of.ensures.records c.in_ok-of.ensures.answers (returns-clause-log g c) is_known sound
 
 pub returns-clause-few_measured : goal.returns-clause-few_measured
-returns-clause-few_measured g c tells sound =
+returns-clause-few_measured g c is_known sound =
     nearest_spent (g.R.M.Metric.space (g.R.Ruler.metric c.args.ruler.now)) (g.met.R.Ruler.axioms c.args.ruler.now) (g.P.Pages.shelf c.args.pages.now) c.args.live.now c.args.q.now c.requires.point c.args.k (g.R.Ruler.used c.args.ruler.now)
     c.requires.some (g.P.Pages.shelf c.explore.new.pages)
     (record { queue = c.explore.new.machine.frontier; best = heap_items c.explore.new.machine.best.heap; kept = kept_seen c.explore.new.machine.kept; used = g.R.Ruler.used c.explore.new.ruler })
@@ -38,10 +38,10 @@ returns-clause-few_measured g c tells sound =
     c.in_ok-explored.explored.rho c.in_ok-explored.explored.opened (g.R.Ruler.used c.args.ruler.now)) c.in_ok-machine.ensures.count c.in_ok-explored.ensures.ok)
     c.in_ok-walk.walk.records.items c.in_ok-walk.walk.hits.items
     c.in_ok-walk.ensures
-    c.in_ok-of.field-0 c.in_ok-of.ensures.records tells sound
+    c.in_ok-of.field-0 c.in_ok-of.ensures.records is_known sound
 
 pub returns-clause-front : goal.returns-clause-front
-returns-clause-front g c tells =
+returns-clause-front g c is_known =
     nearest_front (g.R.M.Metric.space (g.R.Ruler.metric c.args.ruler.now)) (g.met.R.Ruler.axioms c.args.ruler.now) (g.P.Pages.shelf c.args.pages.now) c.args.live.now c.args.q.now c.requires.point c.args.k (g.R.Ruler.used c.args.ruler.now)
     (g.P.Pages.shelf c.explore.new.pages)
     (record { queue = c.explore.new.machine.frontier; best = heap_items c.explore.new.machine.best.heap; kept = kept_seen c.explore.new.machine.kept; used = g.R.Ruler.used c.explore.new.ruler })
@@ -51,4 +51,4 @@ returns-clause-front g c tells =
     c.in_ok-explored.explored.rho c.in_ok-explored.explored.opened (g.R.Ruler.used c.args.ruler.now)) c.in_ok-machine.ensures.count c.in_ok-explored.ensures.ok)
     c.in_ok-walk.walk.records.items c.in_ok-walk.walk.hits.items
     c.in_ok-walk.ensures
-    c.in_ok-of.field-0 c.in_ok-of.ensures.records c.in_ok-of.ensures.answers tells
+    c.in_ok-of.field-0 c.in_ok-of.ensures.records c.in_ok-of.ensures.answers is_known

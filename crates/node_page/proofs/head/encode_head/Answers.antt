@@ -22,5 +22,5 @@ returns c =
       between = λ i from to. limit.others i (inl (omega arith)) ∙ split.others i (inr (omega arith)) ∙ promote.others i (inr (omega arith)) ∙ dim.others i (inr (omega arith)) ∙ kind.others i (inr (omega arith)) ∙ version.others i (inr (omega arith)) ∙ letters.others i (inr (omega arith)) ∙ zero i;
       limit = limit.number;
       behind = λ i from to. limit.others i (inr (omega arith)) ∙ split.others i (inr (omega arith)) ∙ promote.others i (inr (omega arith)) ∙ dim.others i (inr (omega arith)) ∙ kind.others i (inr (omega arith)) ∙ version.others i (inr (omega arith)) ∙ letters.others i (inr (omega arith)) ∙ zero i;
-      lawful = c.requires.lawful;
+      valid = c.requires.valid;
     }

@@ -1,6 +1,6 @@
 use Rattle.std.proofs.Common.{◌≡◌, inl, Some, None, Ok, sym, ◌∙◌, ap, subst}
 use Rattle.node_page.specs.Nodes.{SpellsIn}
-use Rattle.node_page.proofs.NodeLaws.{spells_by_none, none_by_spells, node_is, never_memory, few_by_none, lawful_by_spells}
+use Rattle.node_page.proofs.NodeLaws.{spells_by_none, none_by_spells, node_is, never_memory, few_by_none, valid_by_spells}
 use Rattle.node_page.proofs.node.decode_node.Goals as goal
 
 pub returns-in-Some-clause-only : goal.returns-in-Some-clause-only
@@ -20,7 +20,7 @@ returns-clause-ok c = subst (SpellsIn c.args.version c.args.dim c.args.page.now)
 pub returns-clause-only : goal.returns-clause-only
 returns-clause-only c node spells = inl (ap Ok (c.in_ok-node_in.ensures ∙ node_is c.args.version c.args.dim c.args.page.now node spells))
 
-pub returns-clause-lawful : goal.returns-clause-lawful
-returns-clause-lawful c =
-    lawful_by_spells c.args.version c.args.dim c.args.page.now c.in_ok-node_in.field-0
+pub returns-clause-valid : goal.returns-clause-valid
+returns-clause-valid c =
+    valid_by_spells c.args.version c.args.dim c.args.page.now c.in_ok-node_in.field-0
     (subst (SpellsIn c.args.version c.args.dim c.args.page.now) (sym c.in_ok-node_in.ensures) (spells_by_none c.args.version c.args.dim c.args.page.now (sym c.fault_of.ensures ∙ c.in_default.is)))

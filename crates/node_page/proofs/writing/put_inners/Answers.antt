@@ -10,8 +10,8 @@ use Rattle.node_page.proofs.writing.put_inners.Goals as goal
 pub put_inner-requires : goal.put_inner-requires
 put_inner-requires c =
     let entry = inner_of c.at.result in
-    let lawful = at_all (λ (e : InnerEntry). (length e.point ≡ c.args.dim) × (e.radius ≤ bound) × (e.parent ≤ bound)) c.args.entries.now c.loop-index.index entry c.requires.points (omega (arith, c.len-index-end.ensures)) in
-    let long : length entry.point ≡ c.args.dim = ap (λ (e : InnerEntry). length e.point) c.at.ensures ∙ lawful.0 in
+    let valid = at_all (λ (e : InnerEntry). (length e.point ≡ c.args.dim) × (e.radius ≤ bound) × (e.parent ≤ bound)) c.args.entries.now c.loop-index.index entry c.requires.points (omega (arith, c.len-index-end.ensures)) in
+    let long : length entry.point ≡ c.args.dim = ap (λ (e : InnerEntry). length e.point) c.at.ensures ∙ valid.0 in
     omega (arith, c.place_of.ensures, long, entry_within c.args.dim c.loop-index.index (length c.args.entries.now) (omega (arith, c.len-index-end.ensures)) c.requires.most)
 
 pub loop-index-init : goal.loop-index-init
@@ -20,8 +20,8 @@ loop-index-init c = record { put = firsts_none (λ i. inner_at c.args.dim c.args
 pub loop-index-preserved : goal.loop-index-preserved
 loop-index-preserved c =
     let entry = inner_of c.at.result in
-    let lawful = at_all (λ (e : InnerEntry). (length e.point ≡ c.args.dim) × (e.radius ≤ bound) × (e.parent ≤ bound)) c.args.entries.now c.loop-index.index entry c.requires.points (omega (arith, c.len-index-end.ensures)) in
-    let long : length entry.point ≡ c.args.dim = ap (λ (e : InnerEntry). length e.point) c.at.ensures ∙ lawful.0 in
+    let valid = at_all (λ (e : InnerEntry). (length e.point ≡ c.args.dim) × (e.radius ≤ bound) × (e.parent ≤ bound)) c.args.entries.now c.loop-index.index entry c.requires.points (omega (arith, c.len-index-end.ensures)) in
+    let long : length entry.point ≡ c.args.dim = ap (λ (e : InnerEntry). length e.point) c.at.ensures ∙ valid.0 in
     let here = subst (λ (d : ℕ). inner_at d c.put_inner.new.page (place_of c.args.dim c.loop-index.index) ≡ entry) long
     (subst (λ (at : ℕ). inner_at (length entry.point) c.put_inner.new.page at ≡ entry) c.place_of.ensures c.put_inner.ensures.entry) in
     record {

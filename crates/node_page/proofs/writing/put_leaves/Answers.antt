@@ -10,8 +10,8 @@ use Rattle.node_page.proofs.writing.put_leaves.Goals as goal
 pub put_leaf-requires : goal.put_leaf-requires
 put_leaf-requires c =
     let entry = leaf_of c.at.result in
-    let lawful = at_all (λ (e : LeafEntry). (length e.point ≡ c.args.dim) × (e.parent ≤ bound)) c.args.entries.now c.loop-index.index entry c.requires.points (omega (arith, c.len-index-end.ensures)) in
-    let long : length entry.point ≡ c.args.dim = ap (λ (e : LeafEntry). length e.point) c.at.ensures ∙ lawful.0 in
+    let valid = at_all (λ (e : LeafEntry). (length e.point ≡ c.args.dim) × (e.parent ≤ bound)) c.args.entries.now c.loop-index.index entry c.requires.points (omega (arith, c.len-index-end.ensures)) in
+    let long : length entry.point ≡ c.args.dim = ap (λ (e : LeafEntry). length e.point) c.at.ensures ∙ valid.0 in
     omega (arith, c.place_of.ensures, long, entry_within c.args.dim c.loop-index.index (length c.args.entries.now) (omega (arith, c.len-index-end.ensures)) c.requires.most)
 
 pub loop-index-init : goal.loop-index-init
@@ -20,8 +20,8 @@ loop-index-init c = record { put = firsts_none (λ i. leaf_at c.args.dim c.args.
 pub loop-index-preserved : goal.loop-index-preserved
 loop-index-preserved c =
     let entry = leaf_of c.at.result in
-    let lawful = at_all (λ (e : LeafEntry). (length e.point ≡ c.args.dim) × (e.parent ≤ bound)) c.args.entries.now c.loop-index.index entry c.requires.points (omega (arith, c.len-index-end.ensures)) in
-    let long : length entry.point ≡ c.args.dim = ap (λ (e : LeafEntry). length e.point) c.at.ensures ∙ lawful.0 in
+    let valid = at_all (λ (e : LeafEntry). (length e.point ≡ c.args.dim) × (e.parent ≤ bound)) c.args.entries.now c.loop-index.index entry c.requires.points (omega (arith, c.len-index-end.ensures)) in
+    let long : length entry.point ≡ c.args.dim = ap (λ (e : LeafEntry). length e.point) c.at.ensures ∙ valid.0 in
     let here = subst (λ (d : ℕ). leaf_at d c.put_leaf.new.page (place_of c.args.dim c.loop-index.index) ≡ entry) long
     (subst (λ (at : ℕ). leaf_at (length entry.point) c.put_leaf.new.page at ≡ entry) c.place_of.ensures c.put_leaf.ensures.entry) in
     record {

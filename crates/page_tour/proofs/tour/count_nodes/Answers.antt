@@ -14,7 +14,7 @@ returns-in_err-next-clause-sound g c =
     let fault = c.in_err-next.field-0.0 in
     let cause = tour_stops old live (g.P.Pages.shelf c.loop-tour.pages) new c.loop-tour.tour way.0 way.1 fault c.in_err-next.ensures.stop in
     let p = err_from_is_err_and c.from_residual-in_err-next.result c.from_residual-in_err-next.ensures.1 in
-    rw (p.1, p.2) (λ tells s sound. tour_passes s live old new fault cause tells sound)
+    rw (p.1, p.2) (λ is_known s sound. tour_passes s live old new fault cause is_known sound)
 
 pub loop-tour-preserved-in-Some : goal.loop-tour-preserved-in-Some
 loop-tour-preserved-in-Some g c =

@@ -22,10 +22,10 @@ returns-then-spent-clause-cause g c =
     c.loop-alloc.walk.candidates c.loop-alloc.walk.hits.items c.loop-alloc.walk.tags.items c.loop-alloc.invariant.way c.in-Some.next c.take_within.new.subtrees c.in-Some.ensures.some (search rules)
 
 pub returns-then-spent-clause-sound : goal.returns-then-spent-clause-sound
-returns-then-spent-clause-sound g c nodes tells sound holds on =
+returns-then-spent-clause-sound g c nodes is_known sound holds on =
     way_room (g.R.M.Metric.space (g.R.Ruler.metric c.args.ruler.now)) (g.met.R.Ruler.axioms c.args.ruler.now) (g.P.Pages.shelf c.args.pages.now) c.args.live.now c.args.goal.q.now c.requires.point
     c.args.walk.now.given c.args.walk.now.opened c.args.walk.now.subtrees c.args.walk.now.candidates (g.P.Pages.shelf c.loop-alloc.pages) c.loop-alloc.walk.given c.loop-alloc.walk.opened c.loop-alloc.walk.subtrees
-    c.loop-alloc.walk.candidates c.loop-alloc.walk.hits.items c.loop-alloc.walk.tags.items c.loop-alloc.invariant.way c.in-Some.next c.take_within.new.subtrees c.in-Some.ensures.some nodes tells sound holds on
+    c.loop-alloc.walk.candidates c.loop-alloc.walk.hits.items c.loop-alloc.walk.tags.items c.loop-alloc.invariant.way c.in-Some.next c.take_within.new.subtrees c.in-Some.ensures.some nodes is_known sound holds on
     (search rules)
 
 pub returns-in_err-open_page-clause-asked : goal.returns-in_err-open_page-clause-asked
@@ -46,9 +46,9 @@ returns-in_err-open_page-clause-cause g c =
 pub returns-in_err-open_page-clause-sound : goal.returns-in_err-open_page-clause-sound
 returns-in_err-open_page-clause-sound g c =
     let p = err_from_is_err_and c.from_residual.result c.from_residual.ensures.1 in
-    rw (p.1, p.2) (λ nodes tells sound holds on. way_passes (g.R.M.Metric.space (g.R.Ruler.metric c.args.ruler.now)) (g.met.R.Ruler.axioms c.args.ruler.now) (g.P.Pages.shelf c.args.pages.now) c.args.live.now c.args.goal.q.now c.requires.point
+    rw (p.1, p.2) (λ nodes is_known sound holds on. way_passes (g.R.M.Metric.space (g.R.Ruler.metric c.args.ruler.now)) (g.met.R.Ruler.axioms c.args.ruler.now) (g.P.Pages.shelf c.args.pages.now) c.args.live.now c.args.goal.q.now c.requires.point
     c.args.walk.now.given c.args.walk.now.opened c.args.walk.now.subtrees c.args.walk.now.candidates (g.P.Pages.shelf c.loop-alloc.pages) c.loop-alloc.walk.given c.loop-alloc.walk.opened c.loop-alloc.walk.subtrees
-    c.loop-alloc.walk.candidates c.loop-alloc.walk.hits.items c.loop-alloc.walk.tags.items c.loop-alloc.invariant.way c.in-Some.next c.take_within.new.subtrees c.in-Some.ensures.some nodes tells sound holds on
+    c.loop-alloc.walk.candidates c.loop-alloc.walk.hits.items c.loop-alloc.walk.tags.items c.loop-alloc.invariant.way c.in-Some.next c.take_within.new.subtrees c.in-Some.ensures.some nodes is_known sound holds on
     (g.P.Pages.shelf c.open_page.new.pages) c.in_err-open_page.field-0.0 c.in_err-open_page.ensures.cause)
 
 pub loop-alloc-preserved-in-Some : goal.loop-alloc-preserved-in-Some

@@ -13,7 +13,7 @@ loop-command-init g c =
     let all : c.into_iter-command-iterator.result.rest.items ≡ c.args.commands.items = search rules in
     record {
       wrote = rw (empty, all) (begun _ _);
-      list = record { words = c.new-list.ensures.words ∙ c.words.ensures; points = rw points (λ k d low. absurd (omega arith)); few = rw points (omega arith); tagged = rw (points, tags) refl };
+      list = record { dimension = c.new-list.ensures.dimension ∙ c.dimension.ensures; points = rw points (λ k d low. absurd (omega arith)); few = rw points (omega arith); tagged = rw (points, tags) refl };
       readable = rw all c.requires.readable;
       numbers = rw all (omega (arith, next, c.requires.few));
       puts = rw all refl;

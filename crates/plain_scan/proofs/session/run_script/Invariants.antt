@@ -15,7 +15,7 @@ invariant-loop-command g l = record {
       (reply_texts (record { space = g.M.Metric.space l.scan.metric; limit = l.scan.limit }) l.scan.show_tags l.fn.commands.items)
       (map (text l.scan.show_tags) (replies (record { space = g.M.Metric.space l.scan.metric; limit = l.scan.limit }) (state_of l.list) l.command-iterator.rest.items));
   list : IsListOf (g.M.Metric.space l.scan.metric) l.scan.limit l.list;
-  readable : All (IsReadable (g.M.Metric.space l.scan.metric).words) l.command-iterator.rest.items;
+  readable : All (IsReadable (g.M.Metric.space l.scan.metric).dimension) l.command-iterator.rest.items;
   numbers : l.list.cursors.next + length l.command-iterator.rest.items < 2 ^ 32;
   puts : count_up (g.K.Sink.puts l.out) (length l.command-iterator.rest.items) ≡ count_up (g.K.Sink.puts l.fn.out) (length l.fn.commands.items);
   later : (g.K.Sink.state l.fn.out).faults ≤ (g.K.Sink.state l.out).faults;

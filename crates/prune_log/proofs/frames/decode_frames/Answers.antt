@@ -2,7 +2,7 @@ use Rattle.std.proofs.Common.{◌≡◌, arith}
 use Rattle.std.specs.Prelude.{All}
 use Rattle.std.specs.List.{AllByRecursion}
 use Rattle.std.proofs.lemmas.List.Elements.{All-from_recursion, recursion_from_All}
-use Rattle.log_model.specs.Grammar.{IsLawfulLog}
+use Rattle.log_model.specs.Grammar.{IsValidLog}
 use Rattle.prune_log.specs.Ranges.{LogInRange}
 use Rattle.prune_log.specs.Spelling.{log_bytes, frames_bytes}
 use Rattle.prune_log.specs.Reading.{log_at}
@@ -16,10 +16,10 @@ returns-clause-ok c =
     if_ok c.frames.result (λ v. (frames_bytes log_bytes v.items ≡ c.args.bytes.now) × AllByRecursion IsLog v.items) (λ v. frames_bytes log_bytes v.items ≡ c.args.bytes.now) (λ v both. both.0)
     (frames_ok IsLog log_bytes log_at log_reader (λ v. v.items) c.args.bytes.now c.frames.result (λ i. omega (arith, c.type_inv.bytes i)) c.frames.ensures.gives)
 
-pub returns-clause-lawful : goal.returns-clause-lawful
-returns-clause-lawful c =
-    if_ok c.frames.result (λ v. (frames_bytes log_bytes v.items ≡ c.args.bytes.now) × AllByRecursion IsLog v.items) (λ v. All IsLawfulLog v.items)
-    (λ v both. All-from_recursion IsLawfulLog v.items (each IsLog IsLawfulLog (λ log is. is.lawful) v.items both.1))
+pub returns-clause-valid : goal.returns-clause-valid
+returns-clause-valid c =
+    if_ok c.frames.result (λ v. (frames_bytes log_bytes v.items ≡ c.args.bytes.now) × AllByRecursion IsLog v.items) (λ v. All IsValidLog v.items)
+    (λ v both. All-from_recursion IsValidLog v.items (each IsLog IsValidLog (λ log is. is.valid) v.items both.1))
     (frames_ok IsLog log_bytes log_at log_reader (λ v. v.items) c.args.bytes.now c.frames.result (λ i. omega (arith, c.type_inv.bytes i)) c.frames.ensures.gives)
 
 pub returns-clause-in_range : goal.returns-clause-in_range
@@ -29,7 +29,7 @@ returns-clause-in_range c =
     (frames_ok IsLog log_bytes log_at log_reader (λ v. v.items) c.args.bytes.now c.frames.result (λ i. omega (arith, c.type_inv.bytes i)) c.frames.ensures.gives)
 
 pub returns-clause-only : goal.returns-clause-only
-returns-clause-only c logs lawful range is =
+returns-clause-only c logs valid range is =
     frames_only IsLog log_bytes log_at log_reader (λ v. v.items) c.args.bytes.now c.frames.result logs
-    (each_both IsLawfulLog LogInRange IsLog (λ log one two. record { lawful = one; in_range = two }) logs (recursion_from_All IsLawfulLog logs lawful) (recursion_from_All LogInRange logs range))
+    (each_both IsValidLog LogInRange IsLog (λ log one two. record { valid = one; in_range = two }) logs (recursion_from_All IsValidLog logs valid) (recursion_from_All LogInRange logs range))
     is c.frames.ensures.short c.frames.ensures.gives

@@ -2,7 +2,7 @@ use Rattle.std.proofs.Common.{◌≡◌, arith}
 use Rattle.std.specs.Prelude.{All}
 use Rattle.std.specs.List.{AllByRecursion}
 use Rattle.std.proofs.lemmas.List.Elements.{All-from_recursion, recursion_from_All}
-use Rattle.log_model.specs.Grammar.{IsLawfulJoinLog}
+use Rattle.log_model.specs.Grammar.{IsValidJoinLog}
 use Rattle.prune_log.specs.Ranges.{JoinLogInRange}
 use Rattle.prune_log.specs.Spelling.{join_log_bytes, frames_bytes}
 use Rattle.prune_log.specs.Reading.{join_log_at}
@@ -16,10 +16,10 @@ returns-clause-ok c =
     if_ok c.frames.result (λ v. (frames_bytes join_log_bytes v.items ≡ c.args.bytes.now) × AllByRecursion IsJoinLog v.items) (λ v. frames_bytes join_log_bytes v.items ≡ c.args.bytes.now) (λ v both. both.0)
     (frames_ok IsJoinLog join_log_bytes join_log_at join_log_reader (λ v. v.items) c.args.bytes.now c.frames.result (λ i. omega (arith, c.type_inv.bytes i)) c.frames.ensures.gives)
 
-pub returns-clause-lawful : goal.returns-clause-lawful
-returns-clause-lawful c =
-    if_ok c.frames.result (λ v. (frames_bytes join_log_bytes v.items ≡ c.args.bytes.now) × AllByRecursion IsJoinLog v.items) (λ v. All IsLawfulJoinLog v.items)
-    (λ v both. All-from_recursion IsLawfulJoinLog v.items (each IsJoinLog IsLawfulJoinLog (λ log is. is.lawful) v.items both.1))
+pub returns-clause-valid : goal.returns-clause-valid
+returns-clause-valid c =
+    if_ok c.frames.result (λ v. (frames_bytes join_log_bytes v.items ≡ c.args.bytes.now) × AllByRecursion IsJoinLog v.items) (λ v. All IsValidJoinLog v.items)
+    (λ v both. All-from_recursion IsValidJoinLog v.items (each IsJoinLog IsValidJoinLog (λ log is. is.valid) v.items both.1))
     (frames_ok IsJoinLog join_log_bytes join_log_at join_log_reader (λ v. v.items) c.args.bytes.now c.frames.result (λ i. omega (arith, c.type_inv.bytes i)) c.frames.ensures.gives)
 
 pub returns-clause-in_range : goal.returns-clause-in_range
@@ -29,7 +29,7 @@ returns-clause-in_range c =
     (frames_ok IsJoinLog join_log_bytes join_log_at join_log_reader (λ v. v.items) c.args.bytes.now c.frames.result (λ i. omega (arith, c.type_inv.bytes i)) c.frames.ensures.gives)
 
 pub returns-clause-only : goal.returns-clause-only
-returns-clause-only c logs lawful range is =
+returns-clause-only c logs valid range is =
     frames_only IsJoinLog join_log_bytes join_log_at join_log_reader (λ v. v.items) c.args.bytes.now c.frames.result logs
-    (each_both IsLawfulJoinLog JoinLogInRange IsJoinLog (λ log one two. record { lawful = one; in_range = two }) logs (recursion_from_All IsLawfulJoinLog logs lawful) (recursion_from_All JoinLogInRange logs range))
+    (each_both IsValidJoinLog JoinLogInRange IsJoinLog (λ log one two. record { valid = one; in_range = two }) logs (recursion_from_All IsValidJoinLog logs valid) (recursion_from_All JoinLogInRange logs range))
     is c.frames.ensures.short c.frames.ensures.gives

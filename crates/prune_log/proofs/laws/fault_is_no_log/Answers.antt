@@ -10,8 +10,8 @@ returns c bytes fits = (
   λ none. (
       let read = no_fault (whole log_at bytes) none in
       let took = whole_takes IsLog log_bytes log_at log_reader bytes read.0 fits read.1 in
-      (read.0, record { lawful = took.0.lawful; in_range = took.0.in_range; spelled = took.1 })
+      (read.0, record { valid = took.0.valid; in_range = took.0.in_range; spelled = took.1 })
       ),
   λ found. ap (λ b. fault_of (whole log_at b)) (sym found.1.spelled)
-      ∙ ap fault_of (whole_again IsLog log_bytes log_at log_reader found.0 (record { lawful = found.1.lawful; in_range = found.1.in_range })),
+      ∙ ap fault_of (whole_again IsLog log_bytes log_at log_reader found.0 (record { valid = found.1.valid; in_range = found.1.in_range })),
 )

@@ -9,6 +9,6 @@ use Rattle.prune_log.proofs.laws.one_log.Goals as goal
 pub returns : goal.returns
 returns c bytes log other one two =
     ok_is log other
-    (sym (whole_again IsLog log_bytes log_at log_reader log (record { lawful = one.lawful; in_range = one.in_range }))
+    (sym (whole_again IsLog log_bytes log_at log_reader log (record { valid = one.valid; in_range = one.in_range }))
     ∙ ap (whole log_at) (one.spelled ∙ sym two.spelled)
-    ∙ whole_again IsLog log_bytes log_at log_reader other (record { lawful = two.lawful; in_range = two.in_range }))
+    ∙ whole_again IsLog log_bytes log_at log_reader other (record { valid = two.valid; in_range = two.in_range }))

@@ -1,5 +1,5 @@
 use Rattle.std.proofs.Common.{◌≡◌, arith}
-use Rattle.log_model.specs.Grammar.{IsLawfulLog}
+use Rattle.log_model.specs.Grammar.{IsValidLog}
 use Rattle.prune_log.specs.Ranges.{LogInRange}
 use Rattle.prune_log.specs.Spelling.{log_bytes}
 use Rattle.prune_log.specs.Reading.{log_at}
@@ -12,9 +12,9 @@ returns-clause-ok c =
     if_ok c.whole_log.result (λ log. IsLog log × (log_bytes log ≡ c.args.bytes.now)) (λ log. log_bytes log ≡ c.args.bytes.now) (λ log both. both.1)
     (gives_ok IsLog log_bytes log_at log_reader c.args.bytes.now c.whole_log.result (λ i. omega (arith, c.type_inv.bytes i)) c.whole_log.ensures)
 
-pub returns-clause-lawful : goal.returns-clause-lawful
-returns-clause-lawful c =
-    if_ok c.whole_log.result (λ log. IsLog log × (log_bytes log ≡ c.args.bytes.now)) IsLawfulLog (λ log both. both.0.lawful)
+pub returns-clause-valid : goal.returns-clause-valid
+returns-clause-valid c =
+    if_ok c.whole_log.result (λ log. IsLog log × (log_bytes log ≡ c.args.bytes.now)) IsValidLog (λ log both. both.0.valid)
     (gives_ok IsLog log_bytes log_at log_reader c.args.bytes.now c.whole_log.result (λ i. omega (arith, c.type_inv.bytes i)) c.whole_log.ensures)
 
 pub returns-clause-in_range : goal.returns-clause-in_range
@@ -23,5 +23,5 @@ returns-clause-in_range c =
     (gives_ok IsLog log_bytes log_at log_reader c.args.bytes.now c.whole_log.result (λ i. omega (arith, c.type_inv.bytes i)) c.whole_log.ensures)
 
 pub returns-clause-only : goal.returns-clause-only
-returns-clause-only c log lawful range is =
-    gives_only IsLog log_bytes log_at log_reader c.args.bytes.now c.whole_log.result log (record { lawful = lawful; in_range = range }) is c.whole_log.ensures
+returns-clause-only c log valid range is =
+    gives_only IsLog log_bytes log_at log_reader c.args.bytes.now c.whole_log.result log (record { valid = valid; in_range = range }) is c.whole_log.ensures

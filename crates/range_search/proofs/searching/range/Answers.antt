@@ -10,8 +10,8 @@ use Rattle.range_search.proofs.searching.range.Goals as goal
 pub returns-in_err-walk-clause-sound : goal.returns-in_err-walk-clause-sound
 returns-in_err-walk-clause-sound g c =
     let p = err_from_is_err_and c.from_residual-in_err-walk.result c.from_residual-in_err-walk.ensures.1 in
-    rw (p.1, p.2) (λ tells sound. passes (search_at (g.R.M.Metric.space (g.R.Ruler.metric c.args.ruler.now)) c.args.q.now c.min.result) c.args.live.now (g.P.Pages.shelf c.args.pages.now) (g.P.Pages.shelf c.follow.new.pages)
-    c.in_err-walk.field-0.0 c.in_err-walk.ensures.cause tells sound)
+    rw (p.1, p.2) (λ is_known sound. passes (search_at (g.R.M.Metric.space (g.R.Ruler.metric c.args.ruler.now)) c.args.q.now c.min.result) c.args.live.now (g.P.Pages.shelf c.args.pages.now) (g.P.Pages.shelf c.follow.new.pages)
+    c.in_err-walk.field-0.0 c.in_err-walk.ensures.cause is_known sound)
 
 pub returns-clause-found : goal.returns-clause-found
 returns-clause-found g c =
@@ -25,7 +25,7 @@ returns-clause-found g c =
     c.in_ok-of.ensures.answers c.in_ok-of.ensures.hits
 
 pub returns-clause-scanned : goal.returns-clause-scanned
-returns-clause-scanned g c tells sound =
+returns-clause-scanned g c is_known sound =
     let found = returns-clause-found g c in
     found_scanned (g.R.M.Metric.space (g.R.Ruler.metric c.args.ruler.now)) (g.met.R.Ruler.axioms c.args.ruler.now) c.args.live.now (Range c.args.q.now c.args.r)
-    (nodes_of (g.P.Pages.shelf c.args.pages.now).read) c.in_ok-of.field-0 found.log.hits_are (found.least tells) sound
+    (nodes_of (g.P.Pages.shelf c.args.pages.now).read) c.in_ok-of.field-0 found.log.hits_are (found.least is_known) sound

@@ -10,4 +10,4 @@ pub returns : goal.returns
 returns c = λ after.
     let two = length-map (fields_of c.args.row.now) without_blanks in
     let spelt = ap (number_below (2 ^ 64)) (sym c.field.ensures) ∙ sym c.number.ensures ∙ c.in-Some.is in
-    new_load c.args.words c.in-Some.n c.args.tagged c.new.result (fields_in c.args.row.now) after c.new.ensures (omega arith) spelt c.if-n-eq0.false
+    new_load c.args.dimension c.in-Some.n c.args.tagged c.new.result (fields_in c.args.row.now) after c.new.ensures (omega arith) spelt c.if-n-eq0.false

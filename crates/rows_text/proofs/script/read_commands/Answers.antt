@@ -29,7 +29,7 @@ loop-row-init c =
       rest = strip_bom c.args.bytes.now;
       source = fr.source;
       reached = (sym fr.state, refl);
-      whole = new_reading c.args.words c.new-reading.result c.new-reading.ensures;
+      whole = new_reading c.args.dimension c.new-reading.result c.new-reading.ensures;
     })
 
 pub loop-row-preserved : goal.loop-row-preserved
@@ -48,7 +48,7 @@ loop-row-preserved c =
       rest = m.0;
       source = m.1;
       reached = m.2;
-      whole = reads_more c.args.words c.loop-row.reading c.take.new.self inv.seen (fields_of c.in-Ok.row) took inv.whole;
+      whole = reads_more c.args.dimension c.loop-row.reading c.take.new.self inv.seen (fields_of c.in-Ok.row) took inv.whole;
     }
 
 pub returns : goal.returns
@@ -58,5 +58,5 @@ returns c =
     let all : inv.seen ≡ records default_config (strip_bom c.args.bytes.now) =
     reached_records default_config inv.seen _ st.StartRecord c.loop-row.row-iterator.rdr.state (strip_bom c.args.bytes.now) inv.rest (omega arith) inv.reached
     (rows-end (λ (s : Bor (List ℕ)). Some s.now) c.loop-row.row-iterator.rdr c.next.new.self.rdr [] default_config inv.rest inv.config inv.source s) in
-    ok_same_by (λ v. v.items) c.finish.result (commands_with c.loop-row.reading []) (script c.args.words c.args.bytes.now)
-    (reads_all c.args.words c.loop-row.reading inv.seen _ all inv.whole) c.finish.ensures
+    ok_same_by (λ v. v.items) c.finish.result (commands_with c.loop-row.reading []) (script c.args.dimension c.args.bytes.now)
+    (reads_all c.args.dimension c.loop-row.reading inv.seen _ all inv.whole) c.finish.ensures

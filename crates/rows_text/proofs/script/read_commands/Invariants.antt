@@ -19,5 +19,5 @@ invariant-loop-row l = record {
   rest : List ℕ;
   source : source_of (λ s. Some s.now) l.row-iterator.rdr ≡ Some rest;
   reached : Reached default_config st.StartRecord (strip_bom l.bytes) seen l.row-iterator.rdr.state rest;
-  whole : (after : List Fields) → commands_with l.reading after ≡ commands_after l.words 0 (map (λ fields. map without_blanks fields) seen ++ after);
+  whole : (after : List Fields) → commands_with l.reading after ≡ commands_after l.dimension 0 (map (λ fields. map without_blanks fields) seen ++ after);
 }

@@ -6,7 +6,7 @@ use Rattle.seal_log.proofs.sealing.seal.Given as goal
 
 abbrev pub invariant-loop-page : goal.invariant-loop-page
 invariant-loop-page g l = record {
-  sealed : IsTrue (g.D.Disk.state l.fn.disk).tells → l.leaves.items ≡ leaf_digests (g.D.Disk.state l.fn.disk).bytes l.page;
+  sealed : IsTrue (g.D.Disk.state l.fn.disk).is_known → l.leaves.items ≡ leaf_digests (g.D.Disk.state l.fn.disk).bytes l.page;
   size : length l.leaves.items ≡ l.page;
   later : (g.D.Disk.state l.fn.disk).faults ≤ (g.D.Disk.state l.disk).faults;
   no_fault : (g.D.Disk.state l.disk).faults ≡ (g.D.Disk.state l.fn.disk).faults;

@@ -17,37 +17,37 @@ use Rattle.session_run.proofs.commands.execute.Goals as goal
 pub returns-in-Insert-clause-done : goal.returns-in-Insert-clause-done
 returns-in-Insert-clause-done g c = rw c.inserted.ensures
     (carried (g.M.Metric.space c.args.index.now.file.metric) c.args.show c.args.index.now c.insert.new.self c.args.cursors.now (g.D.Disk.state c.args.disk.now) (g.D.Disk.state c.insert.new.disk) c.args.command.now (written_answer (λ id. reply.Id id) c.insert.result)
-    (λ cursors. inserted_stepped (g.M.Metric.space c.args.index.now.file.metric) c.args.show c.args.index.now c.insert.new.self cursors (g.D.Disk.state c.args.disk.now) (g.D.Disk.state c.insert.new.disk) c.args.command.now c.is_lawful.ensures (c.requires.stands c.requires.going) c.requires.going c.insert.ensures.tells c.insert.ensures.later c.as_slice.result.now c.insert.result c.requires.points
+    (λ cursors. inserted_stepped (g.M.Metric.space c.args.index.now.file.metric) c.args.show c.args.index.now c.insert.new.self cursors (g.D.Disk.state c.args.disk.now) (g.D.Disk.state c.insert.new.disk) c.args.command.now c.is_valid.ensures (c.requires.stands c.requires.going) c.requires.going c.insert.ensures.is_known c.insert.ensures.later c.as_slice.result.now c.insert.result c.requires.points
     (c.in-Insert.is ∙ ap (λ (p : List ℕ). command.Insert p) (sym c.as_slice.ensures)) (c.insert.ensures.written c.requires.going) (c.insert.ensures.full c.requires.going) (c.insert.ensures.worn c.requires.going)
     c.insert.ensures.cause c.insert.ensures.undamaged c.insert.ensures.damage)
     c.requires.kept (keeps_written (g.M.Metric.space c.args.index.now.file.metric) (Inserts c.as_slice.result.now c.args.index.now.file.live.count) (λ id. reply.Id id) c.args.index.now c.insert.new.self (g.D.Disk.state c.args.disk.now) (g.D.Disk.state c.insert.new.disk) c.insert.result (c.insert.ensures.written c.requires.going)
-    (g.met.D.Disk.read_is_image c.insert.new.disk) c.insert.ensures.tells))
+    (g.met.D.Disk.read_is_image c.insert.new.disk) c.insert.ensures.is_known))
 
 pub returns-in-TagInsert-clause-done : goal.returns-in-TagInsert-clause-done
 returns-in-TagInsert-clause-done g c = rw c.inserted-in-TagInsert.ensures
     (carried (g.M.Metric.space c.args.index.now.file.metric) c.args.show c.args.index.now c.insert_tagged.new.self c.args.cursors.now (g.D.Disk.state c.args.disk.now) (g.D.Disk.state c.insert_tagged.new.disk) c.args.command.now (written_answer (λ id. reply.Id id) c.insert_tagged.result)
-    (λ cursors. tag_inserted_stepped (g.M.Metric.space c.args.index.now.file.metric) c.args.show c.args.index.now c.insert_tagged.new.self cursors (g.D.Disk.state c.args.disk.now) (g.D.Disk.state c.insert_tagged.new.disk) c.args.command.now c.is_lawful.ensures (c.requires.stands c.requires.going) c.requires.going c.insert_tagged.ensures.tells c.insert_tagged.ensures.later c.as_slice-in-TagInsert.result.now c.in-TagInsert.tag
+    (λ cursors. tag_inserted_stepped (g.M.Metric.space c.args.index.now.file.metric) c.args.show c.args.index.now c.insert_tagged.new.self cursors (g.D.Disk.state c.args.disk.now) (g.D.Disk.state c.insert_tagged.new.disk) c.args.command.now c.is_valid.ensures (c.requires.stands c.requires.going) c.requires.going c.insert_tagged.ensures.is_known c.insert_tagged.ensures.later c.as_slice-in-TagInsert.result.now c.in-TagInsert.tag
     c.insert_tagged.result c.requires.points (c.in-TagInsert.is ∙ ap (λ (p : List ℕ). command.TagInsert c.in-TagInsert.tag p) (sym c.as_slice-in-TagInsert.ensures))
     (c.insert_tagged.ensures.written c.requires.going) (c.insert_tagged.ensures.full c.requires.going) (c.insert_tagged.ensures.worn c.requires.going) c.insert_tagged.ensures.cause c.insert_tagged.ensures.undamaged c.insert_tagged.ensures.damage)
     c.requires.kept (keeps_written (g.M.Metric.space c.args.index.now.file.metric) (Inserts c.as_slice-in-TagInsert.result.now c.in-TagInsert.tag) (λ id. reply.Id id) c.args.index.now c.insert_tagged.new.self (g.D.Disk.state c.args.disk.now) (g.D.Disk.state c.insert_tagged.new.disk) c.insert_tagged.result (c.insert_tagged.ensures.written c.requires.going)
-    (g.met.D.Disk.read_is_image c.insert_tagged.new.disk) c.insert_tagged.ensures.tells))
+    (g.met.D.Disk.read_is_image c.insert_tagged.new.disk) c.insert_tagged.ensures.is_known))
 
 pub returns-in-Load-clause-done : goal.returns-in-Load-clause-done
 returns-in-Load-clause-done g c = rw c.loaded.ensures
     (carried (g.M.Metric.space c.args.index.now.file.metric) c.args.show c.args.index.now c.load.new.self c.args.cursors.now (g.D.Disk.state c.args.disk.now) (g.D.Disk.state c.load.new.disk) c.args.command.now (written_answer (λ count. reply.Loaded count) c.load.result)
-    (λ cursors. loaded_stepped (g.M.Metric.space c.args.index.now.file.metric) c.args.show c.args.index.now c.load.new.self cursors (g.D.Disk.state c.args.disk.now) (g.D.Disk.state c.load.new.disk) c.args.command.now c.in-Load.rows c.is_lawful.ensures (c.requires.stands c.requires.going) c.requires.going c.load.ensures.tells c.load.ensures.later c.requires.points c.load.result
+    (λ cursors. loaded_stepped (g.M.Metric.space c.args.index.now.file.metric) c.args.show c.args.index.now c.load.new.self cursors (g.D.Disk.state c.args.disk.now) (g.D.Disk.state c.load.new.disk) c.args.command.now c.in-Load.rows c.is_valid.ensures (c.requires.stands c.requires.going) c.requires.going c.load.ensures.is_known c.load.ensures.later c.requires.points c.load.result
     c.in-Load.is (c.load.ensures.written c.requires.going) (λ why refused. (c.load.ensures.refused why refused).0) c.load.ensures.cause c.load.ensures.undamaged c.load.ensures.damage)
     c.requires.kept (keeps_written (g.M.Metric.space c.args.index.now.file.metric) (Loads c.in-Load.rows.points (ids (length c.in-Load.rows.points))) (λ count. reply.Loaded count) c.args.index.now c.load.new.self (g.D.Disk.state c.args.disk.now) (g.D.Disk.state c.load.new.disk) c.load.result (c.load.ensures.written c.requires.going)
-    (g.met.D.Disk.read_is_image c.load.new.disk) c.load.ensures.tells))
+    (g.met.D.Disk.read_is_image c.load.new.disk) c.load.ensures.is_known))
 
 pub returns-in-TagLoad-clause-done : goal.returns-in-TagLoad-clause-done
 returns-in-TagLoad-clause-done g c = rw c.loaded-in-TagLoad.ensures
     (carried (g.M.Metric.space c.args.index.now.file.metric) c.args.show c.args.index.now c.load_tagged.new.self c.args.cursors.now (g.D.Disk.state c.args.disk.now) (g.D.Disk.state c.load_tagged.new.disk) c.args.command.now (written_answer (λ count. reply.Loaded count) c.load_tagged.result)
-    (λ cursors. tag_loaded_stepped (g.M.Metric.space c.args.index.now.file.metric) c.args.show c.args.index.now c.load_tagged.new.self cursors (g.D.Disk.state c.args.disk.now) (g.D.Disk.state c.load_tagged.new.disk) c.args.command.now c.in-TagLoad.rows c.is_lawful.ensures (c.requires.stands c.requires.going) c.requires.going c.load_tagged.ensures.tells c.load_tagged.ensures.later c.requires.points
+    (λ cursors. tag_loaded_stepped (g.M.Metric.space c.args.index.now.file.metric) c.args.show c.args.index.now c.load_tagged.new.self cursors (g.D.Disk.state c.args.disk.now) (g.D.Disk.state c.load_tagged.new.disk) c.args.command.now c.in-TagLoad.rows c.is_valid.ensures (c.requires.stands c.requires.going) c.requires.going c.load_tagged.ensures.is_known c.load_tagged.ensures.later c.requires.points
     c.as_slice-in-TagLoad.result.now c.load_tagged.result (c.in-TagLoad.is ∙ ap (λ (tags : List ℕ). command.TagLoad tags c.in-TagLoad.rows) (sym c.as_slice-in-TagLoad.ensures))
     (c.load_tagged.ensures.written c.requires.going) (λ why refused. (c.load_tagged.ensures.refused why refused).0) c.load_tagged.ensures.cause c.load_tagged.ensures.undamaged c.load_tagged.ensures.damage)
     c.requires.kept (keeps_written (g.M.Metric.space c.args.index.now.file.metric) (Loads c.in-TagLoad.rows.points c.as_slice-in-TagLoad.result.now) (λ count. reply.Loaded count) c.args.index.now c.load_tagged.new.self (g.D.Disk.state c.args.disk.now) (g.D.Disk.state c.load_tagged.new.disk) c.load_tagged.result (c.load_tagged.ensures.written c.requires.going)
-    (g.met.D.Disk.read_is_image c.load_tagged.new.disk) c.load_tagged.ensures.tells))
+    (g.met.D.Disk.read_is_image c.load_tagged.new.disk) c.load_tagged.ensures.is_known))
 
 pub returns-in-Range-clause-done : goal.returns-in-Range-clause-done
 returns-in-Range-clause-done g c =
@@ -64,13 +64,13 @@ returns-in-Nearest-clause-done g c =
 pub returns-in-Count-clause-done : goal.returns-in-Count-clause-done
 returns-in-Count-clause-done g c = rw (c.plain.ensures, c.count.ensures)
     (carried (g.M.Metric.space c.args.index.now.file.metric) c.args.show c.args.index.now c.args.index.now c.args.cursors.now (g.D.Disk.state c.args.disk.now) (g.D.Disk.state c.args.disk.now) c.args.command.now (Ok (plain_answer (reply.Count c.args.index.now.file.live.count)))
-    (λ cursors. counted_stepped (g.M.Metric.space c.args.index.now.file.metric) c.args.show c.args.index.now cursors cursors (g.D.Disk.state c.args.disk.now) c.args.command.now c.is_lawful.ensures (c.requires.stands c.requires.going) c.requires.going c.requires.points c.in-Count.is)
+    (λ cursors. counted_stepped (g.M.Metric.space c.args.index.now.file.metric) c.args.show c.args.index.now cursors cursors (g.D.Disk.state c.args.disk.now) c.args.command.now c.is_valid.ensures (c.requires.stands c.requires.going) c.requires.going c.requires.points c.in-Count.is)
     c.requires.kept (keeps_none c.args.index.now (g.D.Disk.state c.args.disk.now)))
 
 pub returns-in-Bad-clause-done : goal.returns-in-Bad-clause-done
 returns-in-Bad-clause-done g c = rw c.plain-in-Bad.ensures
     (carried (g.M.Metric.space c.args.index.now.file.metric) c.args.show c.args.index.now c.args.index.now c.args.cursors.now (g.D.Disk.state c.args.disk.now) (g.D.Disk.state c.args.disk.now) c.args.command.now (Ok (plain_answer (reply.Refused c.in-Bad.why)))
-    (λ cursors. bad_stepped (g.M.Metric.space c.args.index.now.file.metric) c.args.show c.args.index.now cursors cursors (g.D.Disk.state c.args.disk.now) c.args.command.now c.is_lawful.ensures (c.requires.stands c.requires.going) c.requires.going c.in-Bad.why c.requires.points c.in-Bad.is)
+    (λ cursors. bad_stepped (g.M.Metric.space c.args.index.now.file.metric) c.args.show c.args.index.now cursors cursors (g.D.Disk.state c.args.disk.now) c.args.command.now c.is_valid.ensures (c.requires.stands c.requires.going) c.requires.going c.in-Bad.why c.requires.points c.in-Bad.is)
     c.requires.kept (keeps_none c.args.index.now (g.D.Disk.state c.args.disk.now)))
 
 pub returns-in-Cursor-clause-done : goal.returns-in-Cursor-clause-done
@@ -79,20 +79,20 @@ returns-in-Cursor-clause-done g c = rw c.in-Cursor.is c.«open».ensures.done
 pub returns-in-Ok-clause-done : goal.returns-in-Ok-clause-done
 returns-in-Ok-clause-done g c = rw c.plain-in-Ok.ensures
     (next_carried (g.M.Metric.space c.args.index.now.file.metric) c.args.show c.args.index.now c.args.index.now c.args.cursors.now c.advance.new.self (g.D.Disk.state c.args.disk.now) (g.D.Disk.state c.advance.new.disk) c.args.command.now
-    c.is_lawful.ensures (c.requires.stands c.requires.going) c.requires.going c.requires.points c.in-Next.cursor c.in-Next.n c.in-Ok.reply
+    c.is_valid.ensures (c.requires.stands c.requires.going) c.requires.going c.requires.points c.in-Next.cursor c.in-Next.n c.in-Ok.reply
     (reads_only c.args.index.now.file (g.D.Disk.state c.args.disk.now) (g.D.Disk.state c.advance.new.disk) c.advance.ensures.same c.advance.ensures.later) c.in-Next.is c.advance.ensures.next c.advance.ensures.kept c.in-Ok.ensures.tagged c.in-Ok.ensures.advanced c.in-Ok.ensures.through)
 
 pub returns-in-Err-clause-done : goal.returns-in-Err-clause-done
 returns-in-Err-clause-done g c =
     carried_stopped (g.M.Metric.space c.args.index.now.file.metric) c.args.show c.args.index.now c.args.index.now c.args.cursors.now c.advance.new.self (g.D.Disk.state c.args.disk.now) (g.D.Disk.state c.advance.new.disk) c.args.command.now
-    c.is_lawful.ensures (c.requires.stands c.requires.going) (reads_only c.args.index.now.file (g.D.Disk.state c.args.disk.now) (g.D.Disk.state c.advance.new.disk) c.advance.ensures.same c.advance.ensures.later) c.in-Err.why c.in-Err.ensures.cause c.in-Err.ensures.damage
+    c.is_valid.ensures (c.requires.stands c.requires.going) (reads_only c.args.index.now.file (g.D.Disk.state c.args.disk.now) (g.D.Disk.state c.advance.new.disk) c.advance.ensures.same c.advance.ensures.later) c.in-Err.why c.in-Err.ensures.cause c.in-Err.ensures.damage
 
 pub returns-in-Close-clause-done : goal.returns-in-Close-clause-done
 returns-in-Close-clause-done g c = rw c.plain-in-Close.ensures
     (close_carried (g.M.Metric.space c.args.index.now.file.metric) c.args.show c.args.index.now c.close.new.index c.args.cursors.now c.close.new.self (g.D.Disk.state c.args.disk.now) (g.D.Disk.state c.args.disk.now) c.args.command.now
-    c.is_lawful.ensures (c.requires.stands c.requires.going) (ap (λ (i : OpenIndex g.row.M.Denot). i.stopped) c.close.ensures.only ∙ c.requires.going) c.requires.points c.in-Close.cursor c.close.result
+    c.is_valid.ensures (c.requires.stands c.requires.going) (ap (λ (i : OpenIndex g.row.M.Denot). i.stopped) c.close.ensures.only ∙ c.requires.going) c.requires.points c.in-Close.cursor c.close.result
     (free_reads c.args.index.now c.close.new.index (g.D.Disk.state c.args.disk.now) c.close.ensures.only) c.in-Close.is c.close.ensures.next c.close.ensures.kept c.close.ensures.tagged
-    (λ opened stand. c.close.ensures.closed (g.D.Disk.state c.args.disk.now).bytes opened stand) (λ all tells. c.close.ensures.through (g.D.Disk.state c.args.disk.now).bytes (all tells)))
+    (λ opened stand. c.close.ensures.closed (g.D.Disk.state c.args.disk.now).bytes opened stand) (λ all is_known. c.close.ensures.through (g.D.Disk.state c.args.disk.now).bytes (all is_known)))
 
 pub returns-in-Close-clause-stands : goal.returns-in-Close-clause-stands
 returns-in-Close-clause-stands g c = λ going.

@@ -11,5 +11,5 @@ loop-i-preserved c =
     let long : i * width + width - i * width ≡ width = omega arith in
     c.in_ok-push.ensures.ok
     ∙ ap (λ (t : Table). record t { points = t.points ++ take (i * width + width - i * width) (drop (i * width) cells) ∷ [] }) c.loop-i.invariant
-    ∙ ap (λ (n : ℕ). record { words = width; points = rows_of width i cells ++ take n (drop (i * width) cells) ∷ [] }) long
-    ∙ ap (λ (ps : List (List ℕ)). record { words = width; points = ps }) (sym (one_row_more width i cells))
+    ∙ ap (λ (n : ℕ). record { dimension = width; points = rows_of width i cells ++ take n (drop (i * width) cells) ∷ [] }) long
+    ∙ ap (λ (ps : List (List ℕ)). record { dimension = width; points = ps }) (sym (one_row_more width i cells))

@@ -47,8 +47,8 @@ returns-clause-runs g c =
     ∙ ap (λ (i : OpenIndex MixSpace). i.file.metric) c.in-Ok-open_write.ensures.opened in
     since_opening mix_kind mix_dim c.one_live_slot.ensures c.args.show_tags (g.S.Requests.commands c.args.requests) c.use_cache.new.self c.in-Ok.opened (g.D.Disk.state c.args.index.now) (g.D.Disk.state c.open_index.new.disk)
     (g.D.Disk.state c.open_write.new.disk) (g.D.Disk.state c.run_opened.new.index) (g.K.Sink.state c.args.out.now) (g.K.Sink.state c.run_opened.new.out) (g.T.Sink.state c.args.log_out.now)
-    (g.T.Sink.state c.run_opened.new.log_out) c.run_opened.result.0 c.in-Ok.ensures.same c.open_write.ensures.time c.open_write.ensures.bytes c.open_write.ensures.tells
-    (λ tells. rw (head_is, live_is) (c.in-Ok-open_write.ensures.stands.stands.opens tells)) c.in-Ok.ensures.opens (ap mix_kind metric_is ∙ c.space_of.ensures.kind) (ap mix_dim metric_is ∙ c.space_of.ensures.dim)
+    (g.T.Sink.state c.run_opened.new.log_out) c.run_opened.result.0 c.in-Ok.ensures.same c.open_write.ensures.time c.open_write.ensures.bytes c.open_write.ensures.is_known
+    (λ is_known. rw (head_is, live_is) (c.in-Ok-open_write.ensures.stands.stands.opens is_known)) c.in-Ok.ensures.opens (ap mix_kind metric_is ∙ c.space_of.ensures.kind) (ap mix_dim metric_is ∙ c.space_of.ensures.dim)
     (rw c.in-Ok.ensures.silent at c.run_opened.ensures.runs)
 
 pub returns-clause-reads : goal.returns-clause-reads
@@ -59,8 +59,8 @@ returns-clause-reads g c =
     ∙ ap (λ (i : OpenIndex MixSpace). i.file.metric) c.in-Ok-open_write.ensures.opened in
     reads_since mix_kind mix_dim c.one_live_slot.ensures c.args.show_tags (g.S.Requests.commands c.args.requests) c.use_cache.new.self c.in-Ok.opened (g.D.Disk.state c.args.index.now) (g.D.Disk.state c.open_index.new.disk)
     (g.D.Disk.state c.open_write.new.disk) (g.D.Disk.state c.run_opened.new.index) (g.K.Sink.state c.args.out.now) (g.K.Sink.state c.run_opened.new.out) (g.T.Sink.state c.args.log_out.now)
-    (g.T.Sink.state c.run_opened.new.log_out) c.run_opened.result.0 c.in-Ok.ensures.same c.open_write.ensures.time c.open_write.ensures.bytes c.open_write.ensures.tells
-    (λ tells. rw (head_is, live_is) (c.in-Ok-open_write.ensures.stands.stands.opens tells)) c.in-Ok.ensures.opens (ap mix_kind metric_is ∙ c.space_of.ensures.kind) (ap mix_dim metric_is ∙ c.space_of.ensures.dim)
+    (g.T.Sink.state c.run_opened.new.log_out) c.run_opened.result.0 c.in-Ok.ensures.same c.open_write.ensures.time c.open_write.ensures.bytes c.open_write.ensures.is_known
+    (λ is_known. rw (head_is, live_is) (c.in-Ok-open_write.ensures.stands.stands.opens is_known)) c.in-Ok.ensures.opens (ap mix_kind metric_is ∙ c.space_of.ensures.kind) (ap mix_dim metric_is ∙ c.space_of.ensures.dim)
     c.open_index.ensures.reads c.open_write.ensures.reads c.run_opened.ensures.reads
 
 pub returns-clause-ends : goal.returns-clause-ends
@@ -69,10 +69,10 @@ returns-clause-ends g c =
     let live_here = ap (λ (i : OpenIndex MixSpace). i.file.live) c.in-Ok-use_cache.ensures.ok ∙ ap (λ (i : OpenIndex MixSpace). i.file.live) c.set_workers.ensures in
     refused_of c.use_cache.new.self.file.head c.in-Ok.opened (g.D.Disk.state c.args.index.now) (g.D.Disk.state c.open_write.new.disk) (g.D.Disk.state c.run_opened.new.index) (g.K.Sink.state c.args.out.now)
     (g.K.Sink.state c.run_opened.new.out) (g.T.Sink.state c.args.log_out.now) (g.T.Sink.state c.run_opened.new.log_out) c.run_opened.result.0 (omega (arith, c.in-Ok.ensures.later, c.open_write.ensures.later))
-    (c.open_write.ensures.tells ∙ c.in-Ok.ensures.same.same_tells) c.in-Ok.ensures.opens c.in-Ok.ensures.version
-    (λ tells head live is.
+    (c.open_write.ensures.is_known ∙ c.in-Ok.ensures.same.same_known) c.in-Ok.ensures.opens c.in-Ok.ensures.version
+    (λ is_known head live is.
     (head_is c.one_live_slot.ensures c.use_cache.new.self c.in-Ok.opened (g.D.Disk.state c.args.index.now) (g.D.Disk.state c.open_index.new.disk) (g.D.Disk.state c.open_write.new.disk) c.in-Ok.ensures.same
-    c.open_write.ensures.bytes c.open_write.ensures.tells (λ told. rw (head_here, live_here) (c.in-Ok-open_write.ensures.stands.stands.opens told)) c.in-Ok.ensures.opens tells head live is))
+    c.open_write.ensures.bytes c.open_write.ensures.is_known (λ told. rw (head_here, live_here) (c.in-Ok-open_write.ensures.stands.stands.opens told)) c.in-Ok.ensures.opens is_known head live is))
     (rw c.in-Ok.ensures.silent at c.run_opened.ensures.finished)
 
 pub returns-in-Err-clause-reads : goal.returns-in-Err-clause-reads

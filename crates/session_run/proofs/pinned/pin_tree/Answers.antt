@@ -18,9 +18,9 @@ returns-clause-pinned g c =
     (subst (λ (t : Live). IsUnpinned c.pin.new.self c.unpin.new.self t.generation) c.in_ok-live.ensures.live c.unpin.ensures.list) was
 
 pub returns-clause-guards : goal.returns-clause-guards
-returns-clause-guards g c = λ tells tree reached.
+returns-clause-guards g c = λ is_known tree reached.
     repinned_guards c.args.index.now c.pin.new.self c.unpin.new.self (g.D.Disk.state c.args.disk.now) (g.D.Disk.state c.pin.new.disk) c.args.index.now.file.live.generation (c.requires.pinned c.if-not-is_pinned.false) c.in_ok-live.ensures.pinned
-    (subst (λ (t : Live). IsUnpinned c.pin.new.self c.unpin.new.self t.generation) c.in_ok-live.ensures.live c.unpin.ensures.list) c.pin.ensures.reads c.pin.ensures.rest c.unpin.ensures.guarded tree (c.in_ok-live.ensures.guards tells tree reached)
+    (subst (λ (t : Live). IsUnpinned c.pin.new.self c.unpin.new.self t.generation) c.in_ok-live.ensures.live c.unpin.ensures.list) c.pin.ensures.reads c.pin.ensures.rest c.unpin.ensures.guarded tree (c.in_ok-live.ensures.guards is_known tree reached)
 
 pub returns-clause-guarded : goal.returns-clause-guarded
 returns-clause-guarded g c =

@@ -10,7 +10,7 @@ pub returns-in-Ok-clause-stepped : goal.returns-in-Ok-clause-stepped
 returns-in-Ok-clause-stepped g c = λ cursors.
     found_stepped g.M.Metric.space c.args.show c.args.index.now c.found_answer.new.index c.nearest.new.self.file cursors (g.D.Disk.state c.args.disk.now) (g.D.Disk.state c.nearest.new.disk)
     (g.D.Disk.state c.found_answer.new.disk) (command.Nearest c.args.k c.args.q.now) (query.Nearest c.args.q.now c.args.k) c.in-Ok.found c.found_answer.result
-    c.is_lawful.ensures (c.requires.stands c.requires.going)
+    c.is_valid.ensures (c.requires.stands c.requires.going)
     (ap (λ (i : OpenIndex g.row.M.Denot). i.stopped) c.found_answer.ensures.rest ∙ ap (λ (i : OpenIndex g.row.M.Denot). i.stopped) c.nearest.ensures.rest ∙ c.requires.going)
     c.nearest.ensures.reads c.found_answer.ensures.reads
     (subst (λ (q : List ℕ). HasSearched (g.M.Metric.space c.args.index.now.file.metric) c.args.index.now.file (query.Nearest q c.args.k) (g.D.Disk.state c.args.disk.now) (g.D.Disk.state c.nearest.new.disk) (Ok c.in-Ok.found))
@@ -20,5 +20,5 @@ returns-in-Ok-clause-stepped g c = λ cursors.
 pub returns-in-Err-clause-stepped : goal.returns-in-Err-clause-stepped
 returns-in-Err-clause-stepped g c = λ cursors. rw c.answer_of_fault.ensures
     (reach_fault (g.M.Metric.space c.args.index.now.file.metric) c.args.show c.args.index.now c.nearest.new.self cursors (g.D.Disk.state c.args.disk.now) (g.D.Disk.state c.nearest.new.disk)
-    (command.Nearest c.args.k c.args.q.now) c.in-Err.fault c.is_lawful.ensures (c.requires.stands c.requires.going) c.nearest.ensures.reads
+    (command.Nearest c.args.k c.args.q.now) c.in-Err.fault c.is_valid.ensures (c.requires.stands c.requires.going) c.nearest.ensures.reads
     (c.in-Err.ensures.cause c.requires.going) (λ sound. (c.in-Err.ensures.searched c.requires.going).undamaged sound) c.in-Err.ensures.damage)

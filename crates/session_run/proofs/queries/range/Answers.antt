@@ -10,7 +10,7 @@ pub returns-in-Ok-clause-stepped : goal.returns-in-Ok-clause-stepped
 returns-in-Ok-clause-stepped g c = λ cursors.
     found_stepped g.M.Metric.space c.args.show c.args.index.now c.found_answer.new.index c.range.new.self.file cursors (g.D.Disk.state c.args.disk.now) (g.D.Disk.state c.range.new.disk)
     (g.D.Disk.state c.found_answer.new.disk) (command.Range c.args.r c.args.q.now) (query.Range c.args.q.now c.args.r) c.in-Ok.found c.found_answer.result
-    c.is_lawful.ensures (c.requires.stands c.requires.going)
+    c.is_valid.ensures (c.requires.stands c.requires.going)
     (ap (λ (i : OpenIndex g.row.M.Denot). i.stopped) c.found_answer.ensures.rest ∙ ap (λ (i : OpenIndex g.row.M.Denot). i.stopped) c.range.ensures.rest ∙ c.requires.going)
     c.range.ensures.reads c.found_answer.ensures.reads
     (subst (λ (q : List ℕ). HasSearched (g.M.Metric.space c.args.index.now.file.metric) c.args.index.now.file (query.Range q c.args.r) (g.D.Disk.state c.args.disk.now) (g.D.Disk.state c.range.new.disk) (Ok c.in-Ok.found))
@@ -20,5 +20,5 @@ returns-in-Ok-clause-stepped g c = λ cursors.
 pub returns-in-Err-clause-stepped : goal.returns-in-Err-clause-stepped
 returns-in-Err-clause-stepped g c = λ cursors. rw c.answer_of_fault.ensures
     (range_fault (g.M.Metric.space c.args.index.now.file.metric) c.args.show c.args.index.now c.range.new.self cursors (g.D.Disk.state c.args.disk.now) (g.D.Disk.state c.range.new.disk)
-    (command.Range c.args.r c.args.q.now) c.as_slice.result.now c.args.r c.in-Err.fault c.is_lawful.ensures (c.requires.stands c.requires.going) c.range.ensures.reads
+    (command.Range c.args.r c.args.q.now) c.as_slice.result.now c.args.r c.in-Err.fault c.is_valid.ensures (c.requires.stands c.requires.going) c.range.ensures.reads
     (c.in-Err.ensures.cause c.requires.going) (λ sound. (c.in-Err.ensures.searched c.requires.going).undamaged sound) c.in-Err.ensures.damage)

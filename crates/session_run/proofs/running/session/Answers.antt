@@ -1,6 +1,6 @@
 use Rattle.std.proofs.Common.{◌≡◌, refl, sym, ap, ◌∙◌, subst, ℕ, [], arith, drop, ◌+◌}
 use Rattle.std.proofs.lemmas.List.{drop_all}
-use Rattle.index_core.specs.Files.{IsLawfulFile}
+use Rattle.index_core.specs.Files.{IsValidFile}
 use Rattle.index_core.specs.Index.{OpenIndex}
 use Rattle.std.proofs.KnownBytes.{Appends-nil}
 use Rattle.std.specs.List.{AllByRecursion}
@@ -19,20 +19,20 @@ loop-command-init g c = record {
   metric = refl;
   numbers = omega (arith, c.new-cursors.ensures.next);
   counted = refl;
-  tells = refl;
+  is_known = refl;
   later = omega arith;
   kept = record {
     each = subst (AllByRecursion (IsKeptBy (g.M.Metric.space c.args.index.now.file.metric) c.args.index.now)) (sym c.new-cursors.ensures.cursors) tt;
     numbers = subst (AreNumbered 0 c.new-cursors.result.next) (sym c.new-cursors.ensures.cursors) (omega arith);
   };
-  through = λ tells. subst (AllByRecursion (GoesThrough c.args.index.now (g.D.Disk.state c.args.disk.now).bytes)) (sym c.new-cursors.ensures.cursors) tt;
+  through = λ is_known. subst (AllByRecursion (GoesThrough c.args.index.now (g.D.Disk.state c.args.disk.now).bytes)) (sym c.new-cursors.ensures.cursors) tt;
   grew = ([], Appends-nil (g.K.Sink.state c.args.out.now).written);
   log_grew = ([], Appends-nil (g.T.Sink.state c.args.log_out.now).written);
   out_later = omega arith;
   log_later = omega arith;
   done = λ sound.
       begun (g.M.Metric.space c.args.index.now.file.metric) c.args.show c.args.index.now (g.D.Disk.state c.args.disk.now) c.args.commands.now (g.K.Sink.state c.args.out.now) (g.T.Sink.state c.args.log_out.now)
-      c.new-cursors.result c.new-cursors.ensures.cursors c.new-cursors.ensures.next c.is_lawful.ensures (c.requires.stands c.requires.going) sound;
+      c.new-cursors.result c.new-cursors.ensures.cursors c.new-cursors.ensures.next c.is_valid.ensures (c.requires.stands c.requires.going) sound;
 }
 
 pub loop-command-preserved : goal.loop-command-preserved
@@ -48,7 +48,7 @@ loop-command-preserved g c =
       metric = metric;
       numbers = omega (arith, turned.numbers, c.loop-command.invariant.numbers);
       counted = ap (λ (n : ℕ). n + 1) c.loop-command.invariant.counted;
-      tells = turned.tells ∙ c.loop-command.invariant.tells;
+      is_known = turned.is_known ∙ c.loop-command.invariant.is_known;
       later = omega (arith, turned.later, c.loop-command.invariant.later);
       kept = subst (λ (m : g.row.M.Denot). AreKeptBy (g.M.Metric.space m) c.turn.new.index c.turn.new.cursors) (sym metric) turned.kept;
       through = turned.through c.loop-command.invariant.through;
@@ -85,7 +85,7 @@ returns-clause-run g c = λ sound.
     finished (g.M.Metric.space c.args.index.now.file.metric) c.args.show c.args.index.now (g.D.Disk.state c.args.disk.now) c.args.commands.now (g.K.Sink.state c.args.out.now) (g.T.Sink.state c.args.log_out.now)
     c.loop-command.index c.close_all.new.index c.loop-command.cursors (g.D.Disk.state c.loop-command.disk) (g.K.Sink.state c.loop-command.out) (g.T.Sink.state c.loop-command.log_out) c.loop-command.acknowledged
     c.loop-command.invariant.head (ap (λ (i : OpenIndex g.row.M.Denot). i.file) c.close_all.ensures.only)
-    (subst (λ (m : g.row.M.Denot). IsLawfulFile (g.M.Metric.space m).words c.loop-command.index.file) c.loop-command.invariant.metric c.is_lawful-2.ensures)
+    (subst (λ (m : g.row.M.Denot). IsValidFile (g.M.Metric.space m).dimension c.loop-command.index.file) c.loop-command.invariant.metric c.is_valid-2.ensures)
     (c.loop-command.invariant.stands c.loop-command.invariant.going) (rw none at c.loop-command.invariant.done sound)
 
 pub returns-in-Err-clause-cause : goal.returns-in-Err-clause-cause

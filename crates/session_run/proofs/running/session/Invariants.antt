@@ -15,7 +15,7 @@ invariant-loop-command g l = record {
   metric : l.index.file.metric ≡ l.fn.index.file.metric;
   numbers : l.cursors.next ≤ l.command-index;
   counted : l.acknowledged ≡ l.command-index;
-  tells : (g.D.Disk.state l.disk).tells ≡ (g.D.Disk.state l.fn.disk).tells;
+  is_known : (g.D.Disk.state l.disk).is_known ≡ (g.D.Disk.state l.fn.disk).is_known;
   later : (g.D.Disk.state l.fn.disk).faults ≤ (g.D.Disk.state l.disk).faults;
   kept : AreKeptBy (g.M.Metric.space l.index.file.metric) l.index l.cursors;
   through : AllGoThrough l.index (g.D.Disk.state l.disk) l.cursors;

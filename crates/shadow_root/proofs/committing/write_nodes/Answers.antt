@@ -14,17 +14,17 @@ loop-i-preserved g c =
     let place : 4096 * c.from.result ≡ 4096 * here.page = ap (λ (n : ℕ). 4096 * n) c.from.ensures in
     let size : length c.encode_node.new.page ≡ 4096 = c.encode_node.array_long in
     let i = c.loop-i.invariant in
-    let told : IsTrue start.tells → IsTrue mid.tells = subst (λ (b : Bool). IsTrue b) (sym i.tells) in
+    let told : IsTrue start.is_known → IsTrue mid.is_known = subst (λ (b : Bool). IsTrue b) (sym i.is_known) in
     let written = c.in_ok-write_at.ensures.written in
     record {
       images = one_rewritten staged start mid new c.loop-i.i here (4096 * c.from.result) (length c.encode_node.new.page) stands place size i.images c.write_at.ensures.time c.write_at.ensures.torn;
-      tells = c.write_at.ensures.tells ∙ i.tells;
-      bytes = λ tells. rewritten_then staged start.bytes mid.bytes new.bytes (i.bytes tells)
-          (rewritten_torn staged mid.bytes new.bytes c.loop-i.i here (4096 * c.from.result) (length c.encode_node.new.page) stands place size (c.write_at.ensures.others (told tells)));
-      in_place = λ tells.
+      is_known = c.write_at.ensures.is_known ∙ i.is_known;
+      bytes = λ is_known. rewritten_then staged start.bytes mid.bytes new.bytes (i.bytes is_known)
+          (rewritten_torn staged mid.bytes new.bytes c.loop-i.i here (4096 * c.from.result) (length c.encode_node.new.page) stands place size (c.write_at.ensures.others (told is_known)));
+      in_place = λ is_known.
           in_place_more c.args.dim staged c.loop-i.i here (4096 * c.from.result) c.encode_node.new.page mid.bytes new.bytes place size c.encode_node.ensures stands
-          (apart_at staged c.are_apart.ensures) (written (told tells)) (i.in_place tells);
-      long = λ tells. long_more staged c.loop-i.i here (4096 * c.from.result) c.encode_node.new.page mid.bytes new.bytes stands place size (written (told tells)) (i.long tells);
+          (apart_at staged c.are_apart.ensures) (written (told is_known)) (i.in_place is_known);
+      long = λ is_known. long_more staged c.loop-i.i here (4096 * c.from.result) c.encode_node.new.page mid.bytes new.bytes stands place size (written (told is_known)) (i.long is_known);
       reads = c.write_at.ensures.reads ∙ i.reads;
       faults = c.in_ok-write_at.ensures.cause.done ∙ i.faults;
     }
@@ -37,24 +37,24 @@ returns-in_err-write_at-clause-images g c =
     c.at-new.ensures place c.encode_node.array_long c.loop-i.invariant.images c.write_at.ensures.time c.write_at.ensures.torn
 
 pub returns-clause-in_place : goal.returns-clause-in_place
-returns-clause-in_place g c = λ tells k s stands.
+returns-clause-in_place g c = λ is_known k s stands.
     let below = staged_below c.args.staged.now k s stands in
-    c.loop-i.invariant.in_place tells k s (omega (arith, below)) stands
+    c.loop-i.invariant.in_place is_known k s (omega (arith, below)) stands
 
 pub returns-clause-long : goal.returns-clause-long
-returns-clause-long g c = λ tells k s stands.
+returns-clause-long g c = λ is_known k s stands.
     let below = staged_below c.args.staged.now k s stands in
-    c.loop-i.invariant.long tells k s (omega (arith, below)) stands
+    c.loop-i.invariant.long is_known k s (omega (arith, below)) stands
 
 pub returns-in_err-write_at-clause-bytes : goal.returns-in_err-write_at-clause-bytes
-returns-in_err-write_at-clause-bytes g c = λ tells.
+returns-in_err-write_at-clause-bytes g c = λ is_known.
     let staged = c.args.staged.now in
     let start = g.D.Disk.state c.args.disk.now in
     let mid = g.D.Disk.state c.loop-i.disk in
     let new = g.D.Disk.state c.write_at.new.self in
     let here = c.at-new.result.now in
     let i = c.loop-i.invariant in
-    let told : IsTrue mid.tells = subst (λ (b : Bool). IsTrue b) (sym i.tells) tells in
+    let told : IsTrue mid.is_known = subst (λ (b : Bool). IsTrue b) (sym i.is_known) is_known in
     let place : 4096 * c.from.result ≡ 4096 * here.page = ap (λ (n : ℕ). 4096 * n) c.from.ensures in
-    rewritten_then staged start.bytes mid.bytes new.bytes (i.bytes tells)
+    rewritten_then staged start.bytes mid.bytes new.bytes (i.bytes is_known)
     (rewritten_torn staged mid.bytes new.bytes c.loop-i.i here (4096 * c.from.result) (length c.encode_node.new.page) c.at-new.ensures place c.encode_node.array_long (c.write_at.ensures.others told))

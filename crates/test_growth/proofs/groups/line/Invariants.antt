@@ -5,5 +5,5 @@ use Rattle.test_growth.proofs.groups.line.Given as goal
 
 abbrev pub invariant-loop-i : goal.invariant-loop-i
 invariant-loop-i l =
-    (l.points.words ≡ 1) × (length l.points.points ≡ l.i) × (length l.set.items ≡ l.i) × All (λ p. IsTrue ((vector_space 2 1).fits p)) l.points.points
+    (l.points.dimension ≡ 1) × (length l.points.points ≡ l.i) × (length l.set.items ≡ l.i) × All (λ p. IsTrue ((vector_space 2 1).is_point p)) l.points.points
     × ((k : ℕ) → k < l.i → slice_index l.set.items k ≡ k)

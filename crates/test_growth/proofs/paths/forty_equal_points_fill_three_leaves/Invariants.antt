@@ -1,6 +1,6 @@
 use Rattle.std.proofs.Common.{◌*◌}
-use Rattle.node_page.specs.Opening.{IsLawfulLive}
+use Rattle.node_page.specs.Opening.{IsValidLive}
 use Rattle.test_growth.proofs.paths.forty_equal_points_fill_three_leaves.Given as goal
 
 abbrev pub invariant-loop-x : goal.invariant-loop-x
-invariant-loop-x g l = IsLawfulLive l.head.limit (l.file.live.pages * 4096) l.file.live
+invariant-loop-x g l = IsValidLive l.head.limit (l.file.live.pages * 4096) l.file.live

@@ -2,6 +2,6 @@ use Rattle.std.proofs.Common.{refl}
 use Rattle.node_page.specs.Heads.{is_version, is_space, is_policy, is_limit}
 use Rattle.test_jobs.proofs.making.generate.Goals as goal
 
-pub generate_index-requires-clause-lawful : goal.generate_index-requires-clause-lawful
+pub generate_index-requires-clause-valid : goal.generate_index-requires-clause-valid
 unfolding is_version is_space is_policy is_limit
-generate_index-requires-clause-lawful g c = record { version = refl; space = refl; policy = refl; limit = refl }
+generate_index-requires-clause-valid g c = record { version = refl; space = refl; policy = refl; limit = refl }

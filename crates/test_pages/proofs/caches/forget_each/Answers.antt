@@ -27,6 +27,6 @@ returns c = λ old new grows agrees reads.
     let none : (pair : ℕ × Node) → Contains kept.entries pair → (k : ℕ) → k < c.loop-page.page-index → get_or c.args.written.now k 0 ≢ pair.0 =
     λ pair within k low. All-contains (λ p. get_or c.args.written.now k 0 ≢ p.0) kept.entries pair (c.loop-page.invariant.gone k low) within in
     c.agreement_lasts.ensures kept old new grows (c.loop-page.invariant.agrees old agrees)
-    (λ tells. All-weaker (Contains kept.entries) (λ pair. new.read pair.0 ≡ old.read pair.0)
-    (λ pair within. reads tells pair.0 (not_written c.args.written.now c.loop-page.page-index pair.0 c.loop-page-test.false (none pair within)))
+    (λ is_known. All-weaker (Contains kept.entries) (λ pair. new.read pair.0 ≡ old.read pair.0)
+    (λ pair within. reads is_known pair.0 (not_written c.args.written.now c.loop-page.page-index pair.0 c.loop-page-test.false (none pair within)))
     kept.entries (All-contains_itself kept.entries))

@@ -20,9 +20,9 @@ commit-requires-clause-staged g c =
     subst (IsStagedFor 2 first_live next) (sym all) (staged_one 2 first_live next new (omega arith, omega arith) c.in_ok-node.ensures refl refl)
 
 pub commit-requires-clause-ready : goal.commit-requires-clause-ready
-commit-requires-clause-ready g c = λ tells.
+commit-requires-clause-ready g c = λ is_known.
     let new : StagedNode = record { page = 4; node = c.in_ok-node.node } in
     let all : c.stage.new.self ≡ new ∷ [] = c.in_ok-stage.ensures.ok ∙ ap (λ (xs : List StagedNode). xs ++ new ∷ []) c.new-staged.ensures in
     subst (λ (staged : List StagedNode). IsReady 2 first_live next staged (g.D.Disk.state c.args.disk.now)) (sym all)
-    (ready_of_new head next (new ∷ []) (g.D.Disk.state c.args.disk.now) (c.requires.made tells) refl c.requires.only (omega arith)
+    (ready_of_new head next (new ∷ []) (g.D.Disk.state c.args.disk.now) (c.requires.made is_known) refl c.requires.only (omega arith)
     (λ k s stands. subst (λ (t : StagedNode). t.page ≢ 3) (sym (one_staged new s k stands)) (omega arith)))

@@ -17,7 +17,7 @@ invariant-loop-place g l = record {
   pages_limit : l.visits.pages.limit ≡ l.fn.visits.pages.limit;
   ids_limit : l.visits.ids.limit ≡ l.fn.visits.ids.limit;
   path : l.path.items ≡ l.fn.path.items;
-  left : IsTrue (g.P.Pages.shelf l.fn.pages).tells
+  left : IsTrue (g.P.Pages.shelf l.fn.pages).is_known
       → each_entry (entry_told (g.R.M.Metric.space (g.R.Ruler.metric l.fn.ruler)) (g.P.Pages.shelf l.fn.pages).read l.fn.visits.ids.limit l.at.level l.fn.path.items l.at.page) l.place (drop l.place l.entries) (seen_of l.visits)
       ≡ audited_at (g.R.M.Metric.space (g.R.Ruler.metric l.fn.ruler)) (g.P.Pages.shelf l.fn.pages).read l.fn.visits.ids.limit l.at.level l.at.least l.fn.path.items l.at.page (seen_of l.fn.visits);
   fewer : AreFewer l.visits.pages;

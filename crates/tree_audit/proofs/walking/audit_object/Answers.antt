@@ -11,6 +11,6 @@ returns-in_err-audit_inside-clause-err g c =
     let s = g.R.M.Metric.space (g.R.Ruler.metric c.args.ruler.now) in
     rw (p.1, p.2) (λ ps. told_same _ _ c.in_err-audit_inside.field-0.0
     (object_inside s c.args.ids.now.limit (last_point c.args.path.now) c.args.path.now c.args.page c.args.place (leaf_of c.args.object) (record { pages = ps; ids = c.args.ids.now.met })
-    (sym c.fits.ensures ∙ c.if-not-fits.false)
+    (sym c.is_point.ensures ∙ c.if-not-is_point.false)
     (c.if-object-parent_of.false ∙ c.parent_of.ensures.value))
     (rw (← c.parent_of.ensures.same) (c.in_err-audit_inside.ensures.err _)))

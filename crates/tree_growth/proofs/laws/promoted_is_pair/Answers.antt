@@ -1,4 +1,4 @@
-use Rattle.tree_growth.proofs.Lawful.{promoted_pair}
+use Rattle.tree_growth.proofs.Valid.{promoted_pair}
 use Rattle.tree_growth.proofs.laws.promoted_is_pair.Goals as goal
 
 pub returns : goal.returns

@@ -56,7 +56,7 @@ returns-in-Err-audit_by-clause-audits g c =
     let told = audit_fault (mix_space opened.0.kind opened.0.dim) (reading opened.0.dim opened.1.pages d1.bytes) opened.1 in
     let r = c.end_rejected.result.0 in
     let s = c.end_rejected.ensures.statuses in
-    let before : (IsPassing fault → ⊥) → IsTrue d0.tells → IsAudited d0.bytes (Some fault) = λ kind. audited_before d0 d1 opened.0 opened.1 (Some fault) c.in-Ok.ensures.opens c.in-Ok.ensures.version c.in-Ok.ensures.same (told_by d1 d2.faults told fault kind cause.err) in
+    let before : (IsPassing fault → ⊥) → IsTrue d0.is_known → IsAudited d0.bytes (Some fault) = λ kind. audited_before d0 d1 opened.0 opened.1 (Some fault) c.in-Ok.ensures.opens c.in-Ok.ensures.version c.in-Ok.ensures.same (told_by d1 d2.faults told fault kind cause.err) in
     record {
       unchanged = then_unchanged d0 d1 d2 c.in-Ok.ensures.same cause.same;
       sound = λ is. none_of_four r 1 4 5 8 0 s is (omega arith) (omega arith) (omega arith) (omega arith);

@@ -53,7 +53,7 @@ returns-in-Ok-put_all-clause-runs g c = λ sound.
     zipped_in (mix_space (mix_kind c.space_of-space.result) (mix_dim c.space_of-space.result)) (space_of head) c.args.live.now (bytes_in c.args.image) c.args.task.now.show_tags c.deref.result.now d c.len-2.result
     c.deref-2.result.now c.deref-3.result.now same count (rw c.deref-2.ensures.value c.in-Ok-prepare_all.ensures) (rw c.deref-3.ensures.value c.in-Ok-in_turn.ensures) in
     all_put (space_of head) c.args.live.now (bytes_in c.args.image) c.args.task.now.show_tags c.args.task.now.bytes.now (g.K.Sink.state c.args.out.now) (g.T.Sink.state c.args.log_out.now) sound c.deref.result.now c.deref-3.result.now
-    (c.deref.ensures.value ∙ c.in-Ok.ensures.script ∙ ap (λ (w : ℕ). script w c.args.task.now.bytes.now) (c.words.ensures ∙ c.space_of-space.ensures.dim)) zipped
+    (c.deref.ensures.value ∙ c.in-Ok.ensures.script ∙ ap (λ (w : ℕ). script w c.args.task.now.bytes.now) (c.dimension.ensures ∙ c.space_of-space.ensures.dim)) zipped
     (g.K.Sink.state c.put_all.new.out) (g.T.Sink.state c.put_all.new.log_out) (rw c.in-Ok-put_all.is at c.put_all.ensures.put)
 
 pub returns-clause-runs : goal.returns-clause-runs
@@ -66,7 +66,7 @@ returns-clause-runs g c = λ sound.
     zipped_in (mix_space (mix_kind c.space_of-space.result) (mix_dim c.space_of-space.result)) (space_of head) c.args.live.now (bytes_in c.args.image) c.args.task.now.show_tags c.deref.result.now d c.len-2.result
     c.deref-2.result.now c.deref-3.result.now same count (rw c.deref-2.ensures.value c.in-Ok-prepare_all.ensures) (rw c.deref-3.ensures.value c.in-Ok-in_turn.ensures) in
     stopped (space_of head) c.args.live.now (bytes_in c.args.image) c.args.task.now.show_tags c.args.task.now.bytes.now (g.K.Sink.state c.args.out.now) (g.T.Sink.state c.args.log_out.now) sound c.deref.result.now c.deref-3.result.now
-    (c.deref.ensures.value ∙ c.in-Ok.ensures.script ∙ ap (λ (w : ℕ). script w c.args.task.now.bytes.now) (c.words.ensures ∙ c.space_of-space.ensures.dim)) zipped
+    (c.deref.ensures.value ∙ c.in-Ok.ensures.script ∙ ap (λ (w : ℕ). script w c.args.task.now.bytes.now) (c.dimension.ensures ∙ c.space_of-space.ensures.dim)) zipped
     (g.K.Sink.state c.put_all.new.out) (g.T.Sink.state c.put_all.new.log_out) c.in-Err.why c.end_stopped.result.0 (g.K.Sink.state c.end_stopped.new.out) c.in-Err.ensures.put c.put_all.ensures.later
     c.end_stopped.ensures.ended
 

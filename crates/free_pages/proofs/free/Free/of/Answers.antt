@@ -10,26 +10,26 @@ pub returns-in_err-walk-clause-passing : goal.returns-in_err-walk-clause-passing
 returns-in_err-walk-clause-passing g c =
     let p = err_from_is_err_and c.from_residual.result c.from_residual.ensures.1 in
     let old = g.P.Pages.shelf c.args.pages.now in
-    rw (p.1, p.2) (λ s tells sound. passing old (g.P.Pages.shelf c.walk_tree.new.pages) _ _ (sound_walk s old.read c.args.live.now sound) tells c.in_err-walk.field-0.0 c.in_err-walk.ensures.err)
+    rw (p.1, p.2) (λ s is_known sound. passing old (g.P.Pages.shelf c.walk_tree.new.pages) _ _ (sound_walk s old.read c.args.live.now sound) is_known c.in_err-walk.field-0.0 c.in_err-walk.ensures.err)
 
 pub unopened-requires : goal.unopened-requires
 unopened-requires g c = omega (arith, ap length c.as_slice.ensures.value, c.in_ok-walk.ensures.few)
 
 pub returns-clause-outside : goal.returns-clause-outside
-returns-clause-outside g c tells =
+returns-clause-outside g c is_known =
     let way = c.in_ok-walk.ensures.ok in
     let flags = c.in_ok-walk.walk.opened.items in
     let is : c.in_ok-free.free.items ≡ outside_pages (length flags) way.opened =
     rw (← c.as_slice.ensures.value) (c.in_ok-free.ensures.outside way.opened (rw c.as_slice.ensures.value way.flagged)) in
-    outside_tree c.args.live.now (g.P.Pages.shelf c.args.pages.now) (g.P.Pages.shelf c.walk_tree.new.pages) c.in_ok-walk.walk.count flags c.in_ok-free.free.items way is tells
+    outside_tree c.args.live.now (g.P.Pages.shelf c.args.pages.now) (g.P.Pages.shelf c.walk_tree.new.pages) c.in_ok-walk.walk.count flags c.in_ok-free.free.items way is is_known
 
 pub returns-clause-sound : goal.returns-clause-sound
-returns-clause-sound g c s tells sound =
+returns-clause-sound g c s is_known sound =
     let way = c.in_ok-walk.ensures.ok in
     let flags = c.in_ok-walk.walk.opened.items in
     let is : c.in_ok-free.free.items ≡ outside_pages (length flags) way.opened =
     rw (← c.as_slice.ensures.value) (c.in_ok-free.ensures.outside way.opened (rw c.as_slice.ensures.value way.flagged)) in
-    outside_sound c.args.live.now (g.P.Pages.shelf c.args.pages.now) (g.P.Pages.shelf c.walk_tree.new.pages) c.in_ok-walk.walk.count flags c.in_ok-free.free.items way is s tells sound
+    outside_sound c.args.live.now (g.P.Pages.shelf c.args.pages.now) (g.P.Pages.shelf c.walk_tree.new.pages) c.in_ok-walk.walk.count flags c.in_ok-free.free.items way is s is_known sound
 
 pub returns-clause-numbers : goal.returns-clause-numbers
 returns-clause-numbers g c =

@@ -27,17 +27,17 @@ returns-in_err-follow-clause-cause g c =
     let rest : List Record = drop (suc c.loop-told.told-index) c.args.records.now in
     rw (p.1, p.2)
     (cause_kept old mid (g.P.Pages.shelf c.follow.new.pages) c.loop-told.invariant.same (reverse c.args.self.now.stack.items) (reverse c.loop-told.self.stack.items) c.args.records.now (c.told-item.result ∷ rest)
-    (λ tells. way_comes (nodes_of old.read) c.args.self.now c.args.records.now c.loop-told.self c.loop-told.told-index c.told-item.result c.loop-told-test.true c.told-item.is (c.loop-told.invariant.way tells))
+    (λ is_known. way_comes (nodes_of old.read) c.args.self.now c.args.records.now c.loop-told.self c.loop-told.told-index c.told-item.result c.loop-told-test.true c.told-item.is (c.loop-told.invariant.way is_known))
     c.in_err-follow.field-0.0 (c.in_err-follow.ensures.cause rest))
 
 pub returns-then-not-branch-clause-ok : goal.returns-then-not-branch-clause-ok
-returns-then-not-branch-clause-ok g c = λ tells.
+returns-then-not-branch-clause-ok g c = λ is_known.
     let old : Shelf = g.P.Pages.shelf c.args.pages.now in
     let same = c.loop-told.invariant.same in
     let ended : HasFollowed (nodes_of old.read) c.loop-told.self c.told-item.result c.follow.new.self false =
     subst (λ (b : Bool). HasFollowed (nodes_of old.read) c.loop-told.self c.told-item.result c.follow.new.self b) c.if-not-branch.true
-    (subst (λ (read : Read). HasFollowed (nodes_of read) c.loop-told.self c.told-item.result c.follow.new.self c.in_ok-follow.field-0) same.read (c.in_ok-follow.ensures.ok (same.tells ∙ tells))) in
-    way_ends (nodes_of old.read) c.args.self.now c.args.records.now c.loop-told.self c.loop-told.told-index c.told-item.result c.loop-told-test.true c.told-item.is (c.loop-told.invariant.way tells) c.follow.new.self ended
+    (subst (λ (read : Read). HasFollowed (nodes_of read) c.loop-told.self c.told-item.result c.follow.new.self c.in_ok-follow.field-0) same.read (c.in_ok-follow.ensures.ok (same.is_known ∙ is_known))) in
+    way_ends (nodes_of old.read) c.args.self.now c.args.records.now c.loop-told.self c.loop-told.told-index c.told-item.result c.loop-told-test.true c.told-item.is (c.loop-told.invariant.way is_known) c.follow.new.self ended
 
 pub returns-then-not-branch-clause-asked : goal.returns-then-not-branch-clause-asked
 returns-then-not-branch-clause-asked g c =
@@ -53,18 +53,18 @@ loop-told-preserved g c =
     let old : Shelf = g.P.Pages.shelf c.args.pages.now in
     let same = c.loop-told.invariant.same in
     let taken : passes_over c.args.are_marked c.told-item.result.marks ≡ false = cc (c.as_slice.ensures, c.passes_over.ensures, c.if-passes_over.false) in
-    let followed : IsTrue old.tells → HasFollowed (nodes_of old.read) c.loop-told.self c.told-item.result c.follow.new.self true = λ tells.
+    let followed : IsTrue old.is_known → HasFollowed (nodes_of old.read) c.loop-told.self c.told-item.result c.follow.new.self true = λ is_known.
     subst (λ (b : Bool). HasFollowed (nodes_of old.read) c.loop-told.self c.told-item.result c.follow.new.self b) c.if-not-branch.false
-    (subst (λ (read : Read). HasFollowed (nodes_of read) c.loop-told.self c.told-item.result c.follow.new.self c.in_ok-follow.field-0) same.read (c.in_ok-follow.ensures.ok (same.tells ∙ tells))) in
+    (subst (λ (read : Read). HasFollowed (nodes_of read) c.loop-told.self c.told-item.result c.follow.new.self c.in_ok-follow.field-0) same.read (c.in_ok-follow.ensures.ok (same.is_known ∙ is_known))) in
     record {
       same = holds_both _ _ _ same c.follow.ensures.same;
       keeps = g.met.P.Pages.keeps_both c.args.pages.now c.loop-told.pages c.follow.new.pages c.loop-told.invariant.keeps c.follow.ensures.keeps;
       asked = far_taken c.args.are_marked c.args.records.now c.loop-told.told-index c.told-item.result c.loop-told-test.true c.told-item.is taken _ _ _ _ c.loop-told.invariant.asked c.follow.ensures.asked;
       reads = (let cost = cost_taken c.args.are_marked c.args.records.now c.loop-told.told-index c.told-item.result c.loop-told-test.true c.told-item.is taken in omega (arith, c.loop-told.invariant.reads, c.follow.ensures.reads, cost));
       no_fault = c.in_ok-follow.ensures.no_fault ∙ c.loop-told.invariant.no_fault;
-      way = λ tells.
-          way_on (nodes_of old.read) c.args.self.now c.args.records.now c.loop-told.self c.loop-told.told-index c.told-item.result c.loop-told-test.true c.told-item.is (c.loop-told.invariant.way tells) c.follow.new.self
-          (followed tells (drop (suc c.loop-told.told-index) c.args.records.now));
+      way = λ is_known.
+          way_on (nodes_of old.read) c.args.self.now c.args.records.now c.loop-told.self c.loop-told.told-index c.told-item.result c.loop-told-test.true c.told-item.is (c.loop-told.invariant.way is_known) c.follow.new.self
+          (followed is_known (drop (suc c.loop-told.told-index) c.args.records.now));
     }
 
 pub loop-told-preserved-then-passes_over : goal.loop-told-preserved-then-passes_over
@@ -78,7 +78,7 @@ loop-told-preserved-then-passes_over g c =
       asked = far_passed c.args.are_marked c.args.records.now c.loop-told.told-index c.told-item.result c.loop-told-test.true c.told-item.is passed _ _ _ c.loop-told.invariant.asked;
       reads = (let cost = cost_passed c.args.are_marked c.args.records.now c.loop-told.told-index c.told-item.result c.loop-told-test.true c.told-item.is passed in omega (arith, c.loop-told.invariant.reads, cost));
       no_fault = c.loop-told.invariant.no_fault;
-      way = λ tells.
-          way_past (nodes_of old.read) c.args.self.now c.args.records.now c.loop-told.self c.loop-told.told-index c.told-item.result c.loop-told-test.true c.told-item.is (c.loop-told.invariant.way tells) c.pass.new.self
-          none.0 c.pass.ensures.wanted c.pass.ensures.next (c.requires.marked none.1 tells);
+      way = λ is_known.
+          way_past (nodes_of old.read) c.args.self.now c.args.records.now c.loop-told.self c.loop-told.told-index c.told-item.result c.loop-told-test.true c.told-item.is (c.loop-told.invariant.way is_known) c.pass.new.self
+          none.0 c.pass.ensures.wanted c.pass.ensures.next (c.requires.marked none.1 is_known);
     }

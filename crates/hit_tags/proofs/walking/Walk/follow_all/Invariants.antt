@@ -15,5 +15,5 @@ invariant-loop-told g l = record {
   asked : SoFar (g.P.Pages.shelf l.fn.pages).asked (g.P.Pages.shelf l.pages).asked (most_asked l.are_marked (drop l.told-index l.records)) (most_asked l.are_marked l.records);
   reads : (g.P.Pages.shelf l.pages).reads + most_asked l.are_marked (drop l.told-index l.records) ≤ (g.P.Pages.shelf l.fn.pages).reads + most_asked l.are_marked l.records;
   no_fault : (g.P.Pages.shelf l.pages).faults ≡ (g.P.Pages.shelf l.fn.pages).faults;
-  way : IsTrue (g.P.Pages.shelf l.fn.pages).tells → IsUnderWay (nodes_of (g.P.Pages.shelf l.fn.pages).read) l.fn.self l.records l.self (drop l.told-index l.records);
+  way : IsTrue (g.P.Pages.shelf l.fn.pages).is_known → IsUnderWay (nodes_of (g.P.Pages.shelf l.fn.pages).read) l.fn.self l.records l.self (drop l.told-index l.records);
 }

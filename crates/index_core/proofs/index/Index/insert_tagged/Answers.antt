@@ -2,7 +2,7 @@ use Rattle.std.proofs.Common.{◌≡◌, ◌+◌, sym, ap, subst, ◌∙◌, ari
 use Rattle.free_pages.specs.Commits.{AreWithin}
 use Rattle.index_core.specs.Causes.{HasPathCause}
 use Rattle.index_core.specs.Damage.{BlamesDamage}
-use Rattle.index_core.specs.Files.{OpenFile, IsLawfulFile, OnlyReads}
+use Rattle.index_core.specs.Files.{OpenFile, IsValidFile, OnlyReads}
 use Rattle.index_core.specs.Index.{OpenIndex}
 use Rattle.index_core.specs.Writing.{HasWritten, Inserts, IsNumberedFor}
 use Rattle.index_core.specs.declared.faults.IndexFault.{IndexFault}
@@ -13,24 +13,24 @@ use Rattle.index_core.proofs.index.Index.insert_tagged.Goals as goal
 
 pub returns-then-count-head-clause-written : goal.returns-then-count-head-clause-written
 returns-then-count-head-clause-written g c = λ going.
-    let lawful = subst (λ (i : OpenIndex g.row.M.Denot). IsLawfulFile (g.M.Metric.space i.file.metric).words i.file) c.self.view_is c.is_lawful.ensures in
-    refused_written (g.M.Metric.space c.args.self.now.file.metric) (Inserts c.args.p.now c.args.tag) c.args.self.now c.args.self.now (g.D.Disk.state c.args.disk.now) (g.D.Disk.state c.args.disk.now) Full lawful
+    let valid = subst (λ (i : OpenIndex g.row.M.Denot). IsValidFile (g.M.Metric.space i.file.metric).dimension i.file) c.self.view_is c.is_valid.ensures in
+    refused_written (g.M.Metric.space c.args.self.now.file.metric) (Inserts c.args.p.now c.args.tag) c.args.self.now c.args.self.now (g.D.Disk.state c.args.disk.now) (g.D.Disk.state c.args.disk.now) Full valid
     (c.requires.stands going).stands (c.requires.stands going).only (λ e. cc) (refused_here c.args.self.now (g.D.Disk.state c.args.disk.now)) (λ points tags has exact. exact)
 
 pub returns-then-generation-eq-LAST_GENERATION-clause-written : goal.returns-then-generation-eq-LAST_GENERATION-clause-written
 returns-then-generation-eq-LAST_GENERATION-clause-written g c = λ going.
-    let lawful = subst (λ (i : OpenIndex g.row.M.Denot). IsLawfulFile (g.M.Metric.space i.file.metric).words i.file) c.self.view_is c.is_lawful.ensures in
-    refused_written (g.M.Metric.space c.args.self.now.file.metric) (Inserts c.args.p.now c.args.tag) c.args.self.now c.args.self.now (g.D.Disk.state c.args.disk.now) (g.D.Disk.state c.args.disk.now) Worn lawful
+    let valid = subst (λ (i : OpenIndex g.row.M.Denot). IsValidFile (g.M.Metric.space i.file.metric).dimension i.file) c.self.view_is c.is_valid.ensures in
+    refused_written (g.M.Metric.space c.args.self.now.file.metric) (Inserts c.args.p.now c.args.tag) c.args.self.now c.args.self.now (g.D.Disk.state c.args.disk.now) (g.D.Disk.state c.args.disk.now) Worn valid
     (c.requires.stands going).stands (c.requires.stands going).only (λ e. cc) (refused_here c.args.self.now (g.D.Disk.state c.args.disk.now)) (λ points tags has exact. exact)
 
 pub place-requires-clause-within : goal.place-requires-clause-within
 place-requires-clause-within g c = λ κs bounds.
     subst (λ (i : OpenIndex g.row.M.Denot). AreWithin i.file.live.pages c.in-Ok.free) (sym c.self-2.view_is)
-    (subst (λ (f : OpenFile g.row.M.Denot). AreWithin f.live.pages c.in-Ok.free) (sym c.take_free.ensures.reads.rest) c.in-Ok.ensures.lawful.within)
+    (subst (λ (f : OpenFile g.row.M.Denot). AreWithin f.live.pages c.in-Ok.free) (sym c.take_free.ensures.reads.rest) c.in-Ok.ensures.valid.within)
 
 pub returns-in-Err-place-clause-written : goal.returns-in-Err-place-clause-written
 returns-in-Err-place-clause-written g c = λ going.
-    let lawful = subst (λ (i : OpenIndex g.row.M.Denot). IsLawfulFile (g.M.Metric.space i.file.metric).words i.file) c.self.view_is c.is_lawful.ensures in
+    let valid = subst (λ (i : OpenIndex g.row.M.Denot). IsValidFile (g.M.Metric.space i.file.metric).dimension i.file) c.self.view_is c.is_valid.ensures in
     let second = subst (λ (i : OpenIndex g.row.M.Denot). OnlyReads i.file c.place.new.self (g.D.Disk.state c.take_free.new.disk) (g.D.Disk.state c.place.new.disk)) c.self-2.view_is c.place.ensures.reads in
     let reads = reads_both c.args.self.now.file c.take_free.new.self.file c.place.new.self (g.D.Disk.state c.args.disk.now) (g.D.Disk.state c.take_free.new.disk) (g.D.Disk.state c.place.new.disk)
     c.take_free.ensures.reads second in
@@ -38,14 +38,14 @@ returns-in-Err-place-clause-written g c = λ going.
     subst (λ (n : OpenIndex g.row.M.Denot). HasWritten (g.M.Metric.space c.args.self.now.file.metric) (Inserts c.args.p.now c.args.tag) c.args.self.now n (g.D.Disk.state c.args.disk.now) (g.D.Disk.state c.place.new.disk)
     (Err c.in-Err-place.fault)) (sym (ap (λ (i : OpenIndex g.row.M.Denot). record i { file = c.place.new.self; free = Some c.in-Ok.free }) (c.self-2.view_is ∙ c.take_free.ensures.rest)))
     (refused_written (g.M.Metric.space c.args.self.now.file.metric) (Inserts c.args.p.now c.args.tag) c.args.self.now (record c.args.self.now { file = c.place.new.self; free = Some c.in-Ok.free })
-    (g.D.Disk.state c.args.disk.now) (g.D.Disk.state c.place.new.disk) c.in-Err-place.fault lawful (c.requires.stands going).stands (c.requires.stands going).only
+    (g.D.Disk.state c.args.disk.now) (g.D.Disk.state c.place.new.disk) c.in-Err-place.fault valid (c.requires.stands going).stands (c.requires.stands going).only
     (λ e. subst (λ (fault : IndexFault). HasPathCause (g.M.Metric.space c.self-2.inside.view.metric) c.self-2.inside.view c.in-Ok.free (record { id = c.self-2.inside.view.live.count; tag = c.args.tag; point = c.args.p.now }) (g.D.Disk.state c.take_free.new.disk) (g.D.Disk.state c.place.new.disk) fault) e c.in-Err-place.ensures.cause)
     (refused_by c.args.self.now c.place.new.self c.in-Ok.free (g.D.Disk.state c.args.disk.now) (g.D.Disk.state c.place.new.disk) reads list)
-    (λ points tags has exact. exact_moved c.in-Ok.free c.args.self.now.file c.place.new.self (g.D.Disk.state c.args.disk.now) (g.D.Disk.state c.place.new.disk) reads (c.in-Ok.ensures.exact (has.tells, has.sound) exact)))
+    (λ points tags has exact. exact_moved c.in-Ok.free c.args.self.now.file c.place.new.self (g.D.Disk.state c.args.disk.now) (g.D.Disk.state c.place.new.disk) reads (c.in-Ok.ensures.exact (has.is_known, has.sound) exact)))
 
 pub returns-clause-written : goal.returns-clause-written
 returns-clause-written g c = λ going.
-    let lawful = subst (λ (i : OpenIndex g.row.M.Denot). IsLawfulFile (g.M.Metric.space i.file.metric).words i.file) c.self.view_is c.is_lawful.ensures in
+    let valid = subst (λ (i : OpenIndex g.row.M.Denot). IsValidFile (g.M.Metric.space i.file.metric).dimension i.file) c.self.view_is c.is_valid.ensures in
     let second = subst (λ (i : OpenIndex g.row.M.Denot). OnlyReads i.file c.place.new.self (g.D.Disk.state c.take_free.new.disk) (g.D.Disk.state c.place.new.disk)) c.self-2.view_is c.place.ensures.reads in
     let reads = reads_both c.args.self.now.file c.take_free.new.self.file c.place.new.self (g.D.Disk.state c.args.disk.now) (g.D.Disk.state c.take_free.new.disk) (g.D.Disk.state c.place.new.disk)
     c.take_free.ensures.reads second in
@@ -58,8 +58,8 @@ returns-clause-written g c = λ going.
     let measured = subst (λ (f : OpenFile g.row.M.Denot). HasWritten (g.M.Metric.space f.metric) (Inserts c.args.p.now c.args.tag) (record { file = c.place.new.self; free = Some c.in-Ok.free; stopped = c.self-2.inside.stopped; workers = c.self-2.inside.workers }) c.commit_placed.new.self (g.D.Disk.state c.place.new.disk)
     (g.D.Disk.state c.commit_placed.new.disk) c.commit_placed.result) reads.rest written in
     then_written (g.M.Metric.space c.args.self.now.file.metric) (Inserts c.args.p.now c.args.tag) c.args.self.now c.commit_placed.new.self c.place.new.self c.in-Ok.free (g.D.Disk.state c.args.disk.now)
-    (g.D.Disk.state c.place.new.disk) (g.D.Disk.state c.commit_placed.new.disk) c.commit_placed.result lawful (c.requires.stands going).stands (c.requires.stands going).only reads c.in-Ok.ensures.list
-    (λ points tags has exact. exact_moved c.in-Ok.free c.args.self.now.file c.place.new.self (g.D.Disk.state c.args.disk.now) (g.D.Disk.state c.place.new.disk) reads (c.in-Ok.ensures.exact (has.tells, has.sound) exact))
+    (g.D.Disk.state c.place.new.disk) (g.D.Disk.state c.commit_placed.new.disk) c.commit_placed.result valid (c.requires.stands going).stands (c.requires.stands going).only reads c.in-Ok.ensures.list
+    (λ points tags has exact. exact_moved c.in-Ok.free c.args.self.now.file c.place.new.self (g.D.Disk.state c.args.disk.now) (g.D.Disk.state c.place.new.disk) reads (c.in-Ok.ensures.exact (has.is_known, has.sound) exact))
     (subst (λ (i : OpenIndex g.row.M.Denot). HasWritten (g.M.Metric.space c.args.self.now.file.metric) (Inserts c.args.p.now c.args.tag) (record i { file = c.place.new.self; free = Some c.in-Ok.free }) c.commit_placed.new.self
     (g.D.Disk.state c.place.new.disk) (g.D.Disk.state c.commit_placed.new.disk) c.commit_placed.result) (c.self-2.view_is ∙ c.take_free.ensures.rest) measured)
 
@@ -73,13 +73,13 @@ returns-in-Err-clause-damage g c = list_blames c.args.self.now.file (g.D.Disk.st
 
 pub returns-in-Err-place-clause-damage : goal.returns-in-Err-place-clause-damage
 returns-in-Err-place-clause-damage g c =
-    let lawful = subst (λ (i : OpenIndex g.row.M.Denot). IsLawfulFile (g.M.Metric.space i.file.metric).words i.file) c.self.view_is c.is_lawful.ensures in
-    let words = subst (λ (i : OpenIndex g.row.M.Denot). (g.M.Metric.space i.file.metric).words ≡ i.file.head.dim) (sym c.self-2.view_is)
-    (subst (λ (f : OpenFile g.row.M.Denot). (g.M.Metric.space f.metric).words ≡ f.head.dim) (sym c.take_free.ensures.reads.rest) lawful.words_are) in
+    let valid = subst (λ (i : OpenIndex g.row.M.Denot). IsValidFile (g.M.Metric.space i.file.metric).dimension i.file) c.self.view_is c.is_valid.ensures in
+    let dimension = subst (λ (i : OpenIndex g.row.M.Denot). (g.M.Metric.space i.file.metric).dimension ≡ i.file.head.dim) (sym c.self-2.view_is)
+    (subst (λ (f : OpenFile g.row.M.Denot). (g.M.Metric.space f.metric).dimension ≡ f.head.dim) (sym c.take_free.ensures.reads.rest) valid.words_are) in
     moved_blames c.args.self.now.file c.take_free.new.self.file (g.D.Disk.state c.args.disk.now) (g.D.Disk.state c.take_free.new.disk) c.in-Err-place.fault c.take_free.ensures.reads
     (subst (λ (i : OpenIndex g.row.M.Denot). BlamesDamage i.file (g.D.Disk.state c.take_free.new.disk) c.in-Err-place.fault) c.self-2.view_is
     (path_blames (g.M.Metric.space c.self-2.inside.view.metric) c.self-2.inside.view c.in-Ok.free (record { id = c.self-2.inside.view.live.count; tag = c.args.tag; point = c.args.p.now })
-    (g.D.Disk.state c.take_free.new.disk) (g.D.Disk.state c.place.new.disk) c.in-Err-place.fault words c.in-Err-place.ensures.cause))
+    (g.D.Disk.state c.take_free.new.disk) (g.D.Disk.state c.place.new.disk) c.in-Err-place.fault dimension c.in-Err-place.ensures.cause))
 
 pub returns-clause-damage : goal.returns-clause-damage
 returns-clause-damage g c = commit_blames c.args.self.now.file (g.D.Disk.state c.args.disk.now) c.commit_placed.result c.commit_placed.ensures.refusals

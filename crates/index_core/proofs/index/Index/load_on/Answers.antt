@@ -1,7 +1,7 @@
 use Rattle.std.proofs.Common.{sym, subst, length, Some, Err}
 use Rattle.tree_shape.specs.Tree.{Nodes, IsSoundTree}
 use Rattle.free_pages.specs.Commits.{AreWithin}
-use Rattle.index_core.specs.Files.{IsLawfulFile}
+use Rattle.index_core.specs.Files.{IsValidFile}
 use Rattle.index_core.specs.Index.{OpenIndex, AreSpare}
 use Rattle.index_core.specs.Loading.{HasLoadCause}
 use Rattle.index_core.specs.Writing.{HasWritten, IsNumberedFor, IsPlacedFor, Loads}
@@ -10,7 +10,7 @@ use Rattle.index_core.proofs.index.Index.load_on.Goals as goal
 
 pub build-requires-clause-within : goal.build-requires-clause-within
 build-requires-clause-within g c = λ κs within.
-    subst (λ (i : OpenIndex g.row.M.Denot). AreWithin i.file.live.pages c.args.free) (sym c.self.view_is) c.requires.lawful.within
+    subst (λ (i : OpenIndex g.row.M.Denot). AreWithin i.file.live.pages c.args.free) (sym c.self.view_is) c.requires.valid.within
 
 pub returns-in-Ok-clause-written : goal.returns-in-Ok-clause-written
 returns-in-Ok-clause-written g c =
@@ -27,8 +27,8 @@ returns-in-Ok-clause-cause g c =
 
 pub returns-in-Err-clause-written : goal.returns-in-Err-clause-written
 returns-in-Err-clause-written g c =
-    let lawful = subst (λ (i : OpenIndex g.row.M.Denot). IsLawfulFile (g.M.Metric.space i.file.metric).words i.file) c.self.view_is c.is_lawful.ensures in
+    let valid = subst (λ (i : OpenIndex g.row.M.Denot). IsValidFile (g.M.Metric.space i.file.metric).dimension i.file) c.self.view_is c.is_valid.ensures in
     subst (λ (n : OpenIndex g.row.M.Denot). HasWritten (g.M.Metric.space c.args.self.now.file.metric) (Loads c.args.rows.now.points c.args.tags.now) (record c.args.self.now { free = Some c.args.free }) n
     (g.D.Disk.state c.args.disk.now) (g.D.Disk.state c.args.disk.now) (Err c.in-Err.fault)) (sym c.put_free.ensures)
     (nothing_written (g.M.Metric.space c.args.self.now.file.metric) (Loads c.args.rows.now.points c.args.tags.now) (record c.args.self.now { free = Some c.args.free }) (g.D.Disk.state c.args.disk.now) c.in-Err.fault
-    lawful c.requires.stands c.requires.only (λ e. subst (HasLoadCause (g.M.Metric.space c.self.inside.view.metric) c.self.inside.view c.args.free c.args.rows.now.points c.args.tags.now) e c.in-Err.ensures.cause))
+    valid c.requires.stands c.requires.only (λ e. subst (HasLoadCause (g.M.Metric.space c.self.inside.view.metric) c.self.inside.view c.args.free c.args.rows.now.points c.args.tags.now) e c.in-Err.ensures.cause))

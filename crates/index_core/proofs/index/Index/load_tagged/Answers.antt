@@ -1,5 +1,5 @@
 use Rattle.std.proofs.Common.{subst, Some}
-use Rattle.index_core.specs.Files.{OpenFile, IsLawfulFile}
+use Rattle.index_core.specs.Files.{OpenFile, IsValidFile}
 use Rattle.index_core.specs.Index.{OpenIndex}
 use Rattle.index_core.specs.Writing.{HasWritten, Loads}
 use Rattle.index_core.proofs.Damaged.{list_blames, load_blames, result_blames_nothing}
@@ -9,19 +9,19 @@ use Rattle.index_core.proofs.index.Index.load_tagged.Goals as goal
 
 pub returns-in-Err-clause-written : goal.returns-in-Err-clause-written
 returns-in-Err-clause-written g c = λ going.
-    let lawful = subst (λ (i : OpenIndex g.row.M.Denot). IsLawfulFile (g.M.Metric.space i.file.metric).words i.file) c.self.view_is c.is_lawful.ensures in
+    let valid = subst (λ (i : OpenIndex g.row.M.Denot). IsValidFile (g.M.Metric.space i.file.metric).dimension i.file) c.self.view_is c.is_valid.ensures in
     let alone = c.requires.stands going in
-    nothing_written (g.M.Metric.space c.args.self.now.file.metric) (Loads c.args.rows.now.points c.args.tags.now) c.args.self.now (g.D.Disk.state c.args.disk.now) c.in-Err.fault lawful alone.stands alone.only
+    nothing_written (g.M.Metric.space c.args.self.now.file.metric) (Loads c.args.rows.now.points c.args.tags.now) c.args.self.now (g.D.Disk.state c.args.disk.now) c.in-Err.fault valid alone.stands alone.only
     (at_once c.args.self.now c.len.result c.in-Err.fault c.in-Err.ensures.err)
 
 pub returns-clause-written : goal.returns-clause-written
 returns-clause-written g c = λ going.
-    let lawful = subst (λ (i : OpenIndex g.row.M.Denot). IsLawfulFile (g.M.Metric.space i.file.metric).words i.file) c.self.view_is c.is_lawful.ensures in
+    let valid = subst (λ (i : OpenIndex g.row.M.Denot). IsValidFile (g.M.Metric.space i.file.metric).dimension i.file) c.self.view_is c.is_valid.ensures in
     let alone = c.requires.stands going in
     then_written (g.M.Metric.space c.args.self.now.file.metric) (Loads c.args.rows.now.points c.args.tags.now) c.args.self.now c.load_on.new.self c.take_free.new.self.file c.in-Ok.free
-    (g.D.Disk.state c.args.disk.now) (g.D.Disk.state c.take_free.new.disk) (g.D.Disk.state c.load_on.new.disk) c.load_on.result lawful alone.stands alone.only c.in-Ok.ensures.reads c.in-Ok.ensures.list
+    (g.D.Disk.state c.args.disk.now) (g.D.Disk.state c.take_free.new.disk) (g.D.Disk.state c.load_on.new.disk) c.load_on.result valid alone.stands alone.only c.in-Ok.ensures.reads c.in-Ok.ensures.list
     (λ points tags has exact. exact_moved c.in-Ok.free c.args.self.now.file c.take_free.new.self.file (g.D.Disk.state c.args.disk.now) (g.D.Disk.state c.take_free.new.disk) c.in-Ok.ensures.reads
-    (c.in-Ok.ensures.exact (has.tells, has.sound) exact))
+    (c.in-Ok.ensures.exact (has.is_known, has.sound) exact))
     (subst (λ (o : OpenFile g.row.M.Denot). HasWritten (g.M.Metric.space o.metric) (Loads c.args.rows.now.points c.args.tags.now) (record c.args.self.now { file = c.take_free.new.self.file; free = Some c.in-Ok.free })
     c.load_on.new.self (g.D.Disk.state c.take_free.new.disk) (g.D.Disk.state c.load_on.new.disk) c.load_on.result) c.in-Ok.ensures.reads.rest
     (subst (λ (i : OpenIndex g.row.M.Denot). HasWritten (g.M.Metric.space i.file.metric) (Loads c.args.rows.now.points c.args.tags.now) (record i { free = Some c.in-Ok.free }) c.load_on.new.self

@@ -1,16 +1,16 @@
 use Rattle.std.proofs.Common.{sym, ap, subst, ◌∙◌, Option, Some}
 use Rattle.std.specs.Prelude.{MatchOption}
 use Rattle.free_pages.specs.Keeping.{FreePages}
-use Rattle.index_core.specs.Index.{OpenIndex, IsLawfulFree}
+use Rattle.index_core.specs.Index.{OpenIndex, IsValidFree}
 use Rattle.index_core.specs.Pinning.{IsPinned, LiesBesideTree, LiesOutside}
 use Rattle.index_core.specs.Writing.{GuardsPages}
-use Rattle.index_core.proofs.Pinned.{unpinned_lawful, unpinned_guarded, unpinned_beside, unpinned_outside}
+use Rattle.index_core.proofs.Pinned.{unpinned_valid, unpinned_guarded, unpinned_beside, unpinned_outside}
 use Rattle.index_core.proofs.index.Index.unpin.Goals as goal
 
 pub put_free-requires-after_bounds : goal.put_free-requires-after_bounds
 put_free-requires-after_bounds g c = λ κs within.
-    let lawful = subst (λ (free : Option FreePages). MatchOption free (Unit {0}) (IsLawfulFree c.self.inside.view.live)) (sym c.in-Some.ensures.value) c.self.invariant.free in
-    subst (IsLawfulFree c.self.inside.view.live) (sym c.unpin.ensures.pins) (unpinned_lawful c.self.inside.view.live c.in-Some.free c.args.generation lawful)
+    let valid = subst (λ (free : Option FreePages). MatchOption free (Unit {0}) (IsValidFree c.self.inside.view.live)) (sym c.in-Some.ensures.value) c.self.invariant.free in
+    subst (IsValidFree c.self.inside.view.live) (sym c.unpin.ensures.pins) (unpinned_valid c.self.inside.view.live c.in-Some.free c.args.generation valid)
 
 pub returns-in-Some-clause-guarded : goal.returns-in-Some-clause-guarded
 returns-in-Some-clause-guarded g c = λ other tree stays guards.

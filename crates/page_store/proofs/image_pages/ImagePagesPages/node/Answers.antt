@@ -10,31 +10,31 @@ pub returns-then-not-is_within-clause-cause : goal.returns-then-not-is_within-cl
 returns-then-not-is_within-clause-cause c =
     let p = c.args.self.now in
     answers_outside Second (image_shelf p.dim p.pages (bytes_in p.image) p.asked) (image_shelf p.dim p.pages (bytes_in p.image) p.asked) c.args.page (bytes_in p.image)
-    (sym c.is_within.ensures.test ∙ c.if-not-is_within.true) (λ tells. refl)
+    (sym c.is_within.ensures.test ∙ c.if-not-is_within.true) (λ is_known. refl)
 
 pub returns-in-Some-clause-ok : goal.returns-in-Some-clause-ok
 returns-in-Some-clause-ok c =
     let p = c.args.self.now in
     answers_node Second c.node_on.result (image_shelf p.dim p.pages (bytes_in p.image) p.asked) c.args.page c.in-Some.bytes.now (bytes_in p.image)
-    (sym c.is_within.ensures.test ∙ c.if-not-is_within.false) c.node_on.ensures.lawful c.node_on.ensures.told (λ tells. c.in-Some.ensures ∙ c.place-place.ensures) (λ tells. refl)
+    (sym c.is_within.ensures.test ∙ c.if-not-is_within.false) c.node_on.ensures.valid c.node_on.ensures.told (λ is_known. c.in-Some.ensures ∙ c.place-place.ensures) (λ is_known. refl)
 
 pub returns-in-Some-clause-cause : goal.returns-in-Some-clause-cause
 returns-in-Some-clause-cause c =
     let p = c.args.self.now in
     answers_fault Second c.node_on.result (image_shelf p.dim p.pages (bytes_in p.image) p.asked) (image_shelf p.dim p.pages (bytes_in p.image) p.asked) c.args.page c.in-Some.bytes.now (bytes_in p.image)
-    (sym c.is_within.ensures.test ∙ c.if-not-is_within.false) c.node_on.ensures.fault (λ tells. c.in-Some.ensures ∙ c.place-place.ensures) (λ tells. refl)
+    (sym c.is_within.ensures.test ∙ c.if-not-is_within.false) c.node_on.ensures.fault (λ is_known. c.in-Some.ensures ∙ c.place-place.ensures) (λ is_known. refl)
 
 pub returns-clause-ok : goal.returns-clause-ok
 returns-clause-ok c =
     let p = c.args.self.now in
     answers_node Second c.node_on_cut.result (image_shelf p.dim p.pages (bytes_in p.image) p.asked) c.args.page (page_of c.place-place.result.0.now c.place-place.result.1) (bytes_in p.image)
-    (sym c.is_within.ensures.test ∙ c.if-not-is_within.false) c.node_on_cut.ensures.lawful c.node_on_cut.ensures.told (λ tells. c.place-place.ensures) (λ tells. refl)
+    (sym c.is_within.ensures.test ∙ c.if-not-is_within.false) c.node_on_cut.ensures.valid c.node_on_cut.ensures.told (λ is_known. c.place-place.ensures) (λ is_known. refl)
 
 pub returns-clause-cause : goal.returns-clause-cause
 returns-clause-cause c =
     let p = c.args.self.now in
     answers_fault Second c.node_on_cut.result (image_shelf p.dim p.pages (bytes_in p.image) p.asked) (image_shelf p.dim p.pages (bytes_in p.image) p.asked) c.args.page (page_of c.place-place.result.0.now c.place-place.result.1) (bytes_in p.image)
-    (sym c.is_within.ensures.test ∙ c.if-not-is_within.false) c.node_on_cut.ensures.fault (λ tells. c.place-place.ensures) (λ tells. refl)
+    (sym c.is_within.ensures.test ∙ c.if-not-is_within.false) c.node_on_cut.ensures.fault (λ is_known. c.place-place.ensures) (λ is_known. refl)
 
 pub returns-in-Some-clause-outside : goal.returns-in-Some-clause-outside
 returns-in-Some-clause-outside c = not_outside c.args.self.now.pages c.args.page (sym c.is_within.ensures.test ∙ c.if-not-is_within.false)

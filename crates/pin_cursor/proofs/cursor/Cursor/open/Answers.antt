@@ -13,4 +13,4 @@ returns-clause-begun c =
     λ i. record { live = c.args.live; point = c.args.q; given = 0; opened = 0; subtrees = xs i; candidates = c.new.ensures i }
 
 pub returns-clause-starts : goal.returns-clause-starts
-returns-clause-starts c s nodes axioms sound fits = subst (IsCursorOn s nodes) (sym (returns-clause-begun c)) (starts s nodes axioms c.args.live c.args.q sound fits)
+returns-clause-starts c s nodes axioms sound is_point = subst (IsCursorOn s nodes) (sym (returns-clause-begun c)) (starts s nodes axioms c.args.live c.args.q sound is_point)

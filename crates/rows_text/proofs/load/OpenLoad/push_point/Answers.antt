@@ -12,5 +12,5 @@ push-requires c =
     let is : Some c.in-Some.point.items ≡ coordinates (fields_in c.args.row.now) = ap (option_map (λ v. v.items)) (sym c.in-Some.is) ∙ c.in_ok-point.ensures in
     let long = coordinates_long (fields_in c.args.row.now) c.in-Some.point.items (sym is) in
     let fields = length-map (fields_of c.args.row.now) without_blanks in
-    let words = c.args.self.now.as_long in
+    let dimension = c.args.self.now.as_long in
     omega arith

@@ -13,5 +13,5 @@ push-requires c =
     let long = coordinates_long (drop 1 (fields_in c.args.row.now)) c.in-Some-2.point.items (sym is) in
     let fields = length-map (fields_of c.args.row.now) without_blanks in
     let rest = length-drop 1 (fields_in c.args.row.now) in
-    let words = c.args.self.now.as_long in
+    let dimension = c.args.self.now.as_long in
     omega arith

@@ -11,17 +11,17 @@ use Rattle.seal_log.proofs.verifying.CarriedPagesPages.node.Goals as goal
 pub returns-then-not-is_within-clause-cause : goal.returns-then-not-is_within-clause-cause
 returns-then-not-is_within-clause-cause c =
     let p = c.args.self.now.carried.now in let shelf = image_shelf p.head.dim p.live.pages (file_of p) c.args.self.now.asked in
-    answers_outside Second shelf shelf c.args.page (file_of p) (ap (λ (n : ℕ). is_within n c.args.page) (ap (λ (l : Live). l.pages) (sym c.live.ensures)) ∙ sym c.is_within.ensures.test ∙ c.if-not-is_within.true) (λ tells. refl)
+    answers_outside Second shelf shelf c.args.page (file_of p) (ap (λ (n : ℕ). is_within n c.args.page) (ap (λ (l : Live). l.pages) (sym c.live.ensures)) ∙ sym c.is_within.ensures.test ∙ c.if-not-is_within.true) (λ is_known. refl)
 
 pub returns-clause-ok : goal.returns-clause-ok
 returns-clause-ok c =
     let p = c.args.self.now.carried.now in let shelf = image_shelf p.head.dim p.live.pages (file_of p) c.args.self.now.asked in
-    answers_node Second c.node_on.result shelf c.args.page (page_of (file_of p) c.args.page) (file_of p) (ap (λ (n : ℕ). is_within n c.args.page) (ap (λ (l : Live). l.pages) (sym c.live.ensures)) ∙ sym c.is_within.ensures.test ∙ c.if-not-is_within.false) c.node_on.ensures.lawful c.node_on.ensures.told (λ tells. refl) (λ tells. refl)
+    answers_node Second c.node_on.result shelf c.args.page (page_of (file_of p) c.args.page) (file_of p) (ap (λ (n : ℕ). is_within n c.args.page) (ap (λ (l : Live). l.pages) (sym c.live.ensures)) ∙ sym c.is_within.ensures.test ∙ c.if-not-is_within.false) c.node_on.ensures.valid c.node_on.ensures.told (λ is_known. refl) (λ is_known. refl)
 
 pub returns-clause-cause : goal.returns-clause-cause
 returns-clause-cause c =
     let p = c.args.self.now.carried.now in let shelf = image_shelf p.head.dim p.live.pages (file_of p) c.args.self.now.asked in
-    answers_fault Second c.node_on.result shelf shelf c.args.page (page_of (file_of p) c.args.page) (file_of p) (ap (λ (n : ℕ). is_within n c.args.page) (ap (λ (l : Live). l.pages) (sym c.live.ensures)) ∙ sym c.is_within.ensures.test ∙ c.if-not-is_within.false) c.node_on.ensures.fault (λ tells. refl) (λ tells. refl)
+    answers_fault Second c.node_on.result shelf shelf c.args.page (page_of (file_of p) c.args.page) (file_of p) (ap (λ (n : ℕ). is_within n c.args.page) (ap (λ (l : Live). l.pages) (sym c.live.ensures)) ∙ sym c.is_within.ensures.test ∙ c.if-not-is_within.false) c.node_on.ensures.fault (λ is_known. refl) (λ is_known. refl)
 
 pub returns-clause-outside : goal.returns-clause-outside
 returns-clause-outside c = not_outside c.args.self.now.carried.now.live.pages c.args.page (ap (λ (n : ℕ). is_within n c.args.page) (ap (λ (l : Live). l.pages) (sym c.live.ensures)) ∙ sym c.is_within.ensures.test ∙ c.if-not-is_within.false)

@@ -6,4 +6,4 @@ use Rattle.session_run.proofs.given_rows.RowsToInsertRequests.read.Given as goal
 
 abbrev pub invariant-loop-i : goal.invariant-loop-i
 invariant-loop-i l =
-    (l.commands.items ≡ firsts (insert_at l.given.rows l.given.tags l.words) l.i) × (All (IsReadable l.words) l.commands.items × (length l.commands.items ≡ l.i))
+    (l.commands.items ≡ firsts (insert_at l.given.rows l.given.tags l.dimension) l.i) × (All (IsReadable l.dimension) l.commands.items × (length l.commands.items ≡ l.i))

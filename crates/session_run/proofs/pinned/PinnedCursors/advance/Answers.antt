@@ -13,7 +13,7 @@ use Rattle.session_run.proofs.Stepped.{IsRefusal, IsStep, advanced_by, kept_set,
 use Rattle.session_run.proofs.pinned.PinnedCursors.advance.Goals as goal
 
 pub returns-in_default-clause-advanced : goal.returns-in_default-clause-advanced
-returns-in_default-clause-advanced g c = λ opened tells stand. unnamed_by (g.M.Metric.space c.args.index.now.file.metric) c.args.index.now (g.D.Disk.state c.args.disk.now).bytes c.args.self.now opened c.args.number c.args.n (sym c.place_of.ensures ∙ c.in_default.is) stand
+returns-in_default-clause-advanced g c = λ opened is_known stand. unnamed_by (g.M.Metric.space c.args.index.now.file.metric) c.args.index.now (g.D.Disk.state c.args.disk.now).bytes c.args.self.now opened c.args.number c.args.n (sym c.place_of.ensures ∙ c.in_default.is) stand
 
 pub returns-clause-kept : goal.returns-clause-kept
 returns-clause-kept g c =
@@ -23,9 +23,9 @@ returns-clause-kept g c =
     (subst (λ (p : PinnedCursor). c.step_cursor.new.cursor.point ≡ p.cursor.point) c.index_mut-pinned.ensures.value c.step_cursor.ensures.point)
 
 pub returns-clause-advanced : goal.returns-clause-advanced
-returns-clause-advanced g c = λ opened tells stand.
+returns-clause-advanced g c = λ opened is_known stand.
     let found = position-Some (λ (x : PinnedCursor). x.number == c.args.number) c.args.self.now.cursors.items c.in-Some.place c.index_mut-pinned.result.now (sym c.place_of.ensures ∙ c.in-Some.is) in
-    advanced_by (g.M.Metric.space c.args.index.now.file.metric) c.args.index.now (g.D.Disk.state c.args.disk.now) (g.D.Disk.state c.step_cursor.new.disk) c.args.self.now (record { cursors = with_item c.args.self.now.cursors c.in-Some.place (record { number = c.index_mut-pinned.result.now.number; cursor = c.step_cursor.new.cursor }); next = c.args.self.now.next }) c.args.number c.args.n c.in-Some.place c.index_mut-pinned.result.now c.step_cursor.new.cursor c.requires.kept found.0 (same_of _ _ found.1) opened c.in_ok-stepped.stepped.hits c.in_ok-stepped.stepped.tags c.step_cursor.ensures.same c.step_cursor.ensures.later tells stand (λ i. set c.args.self.now.cursors.items c.in-Some.place (record { number = (c.index_mut-pinned.ensures.value i).number; cursor = c.step_cursor.new.cursor })) refl
+    advanced_by (g.M.Metric.space c.args.index.now.file.metric) c.args.index.now (g.D.Disk.state c.args.disk.now) (g.D.Disk.state c.step_cursor.new.disk) c.args.self.now (record { cursors = with_item c.args.self.now.cursors c.in-Some.place (record { number = c.index_mut-pinned.result.now.number; cursor = c.step_cursor.new.cursor }); next = c.args.self.now.next }) c.args.number c.args.n c.in-Some.place c.index_mut-pinned.result.now c.step_cursor.new.cursor c.requires.kept found.0 (same_of _ _ found.1) opened c.in_ok-stepped.stepped.hits c.in_ok-stepped.stepped.tags c.step_cursor.ensures.same c.step_cursor.ensures.later is_known stand (λ i. set c.args.self.now.cursors.items c.in-Some.place (record { number = (c.index_mut-pinned.ensures.value i).number; cursor = c.step_cursor.new.cursor })) refl
     (subst (λ (p : PinnedCursor). IsStep (g.M.Metric.space c.args.index.now.file.metric) c.args.index.now.file.head.dim (g.D.Disk.state c.args.disk.now) p.cursor c.step_cursor.new.cursor c.args.n c.in_ok-stepped.stepped.hits c.in_ok-stepped.stepped.tags) c.index_mut-pinned.ensures.value (record {
       live = c.step_cursor.ensures.live;
       point = c.step_cursor.ensures.point;
@@ -55,13 +55,13 @@ returns-in_err-stepped-clause-damage g c =
       cause = c.in_err-stepped.ensures.cause.1;
       sound = c.in_err-stepped.ensures.sound;
     })
-    (λ tells. subst (GoesThrough c.args.index.now (g.D.Disk.state c.args.disk.now).bytes) (sym c.index_mut-pinned.ensures.value)
-    (all_at (GoesThrough c.args.index.now (g.D.Disk.state c.args.disk.now).bytes) c.args.self.now.cursors.items c.in-Some.place c.index_mut-pinned.result.now found.0 (through tells)))))
+    (λ is_known. subst (GoesThrough c.args.index.now (g.D.Disk.state c.args.disk.now).bytes) (sym c.index_mut-pinned.ensures.value)
+    (all_at (GoesThrough c.args.index.now (g.D.Disk.state c.args.disk.now).bytes) c.args.self.now.cursors.items c.in-Some.place c.index_mut-pinned.result.now found.0 (through is_known)))))
 
 pub returns-clause-through : goal.returns-clause-through
-returns-clause-through g c = λ through tells.
+returns-clause-through g c = λ through is_known.
     let found = position-Some (λ (x : PinnedCursor). x.number == c.args.number) c.args.self.now.cursors.items c.in-Some.place c.index_mut-pinned.result.now (sym c.place_of.ensures ∙ c.in-Some.is) in
-    let now : IsTrue (g.D.Disk.state c.args.disk.now).tells = subst IsTrue c.step_cursor.ensures.same.same_tells tells in
+    let now : IsTrue (g.D.Disk.state c.args.disk.now).is_known = subst IsTrue c.step_cursor.ensures.same.same_known is_known in
     let goes = subst (GoesThrough c.args.index.now (g.D.Disk.state c.args.disk.now).bytes) (sym c.index_mut-pinned.ensures.value)
     (all_at (GoesThrough c.args.index.now (g.D.Disk.state c.args.disk.now).bytes) c.args.self.now.cursors.items c.in-Some.place c.index_mut-pinned.result.now found.0 (through now)) in
     subst (λ (bytes : List ℕ). AllByRecursion (GoesThrough c.args.index.now bytes) (set c.args.self.now.cursors.items c.in-Some.place (record { number = c.index_mut-pinned.result.now.number; cursor = c.step_cursor.new.cursor })))

@@ -30,13 +30,13 @@ pub record TakesSeen (rho : ℕ) (n : Need) (seen : Seen) (old new : Traversal) 
   pub needs : reverse new.stack.items ≡ needs_seen rho seen ++ reverse old.stack.items
 
 -- the walk over what is kept has reached this state
-pub record IsRelogging (rho : ℕ) (kept : Sheets) (root : ℕ) (records : List Record) (hits : List Hit) (left : List Need) : Type 0 where
+pub record IsRebuilding (rho : ℕ) (kept : Sheets) (root : ℕ) (records : List Record) (hits : List Hit) (left : List Need) : Type 0 where
   pub walk : IsWalk rho kept root records hits left
   pub few_marks : AllByRecursion (λ r. length r.marks ≤ 32) records
   pub few_hits : length hits ≤ 32 * length records
 
 -- the walk over what is kept has ended
-pub record IsRelogged (rho : ℕ) (kept : Sheets) (live : Live) (records : List Record) (hits : List Hit) : Type 0 where
+pub record IsRebuiltLog (rho : ℕ) (kept : Sheets) (live : Live) (records : List Record) (hits : List Hit) : Type 0 where
   pub left : List Need
   pub walk : IsWalk rho kept live.root records hits left
   pub ends : IsStopped kept live records left

@@ -1,4 +1,4 @@
-use job_files::logs::{Court, LogStop, first_fault, push_answers, push_verdict};
+use job_files::logs::{Checker, LogStop, first_fault, push_answers, push_verdict};
 use log_model::Log;
 use log_verify::Verdict;
 use metric_mix::MixSpace;
@@ -10,7 +10,7 @@ use tree_shape::Live;
 
 /// Judges query logs by the pages of a tree.
 #[derive(Drop)]
-pub struct LogCourt<'a, P: Pages> {
+pub struct LogChecker<'a, P: Pages> {
     /// The tree's space.
     pub space: MixSpace,
     /// The live tree.
@@ -19,7 +19,7 @@ pub struct LogCourt<'a, P: Pages> {
     pub pages: &'a mut P,
 }
 
-impl<P: Pages> Court for LogCourt<'_, P> {
+impl<P: Pages> Checker for LogChecker<'_, P> {
     type Log = Log;
 
     type Verdict = Verdict;
@@ -29,17 +29,17 @@ impl<P: Pages> Court for LogCourt<'_, P> {
     ghost use Rattle.metric_mix.specs.MixSpaces.{mix_space};
     ghost use Rattle.metric_mix.specs.MixKinds.{mix_kind, mix_dim};
     ghost use Rattle.log_verify.specs.Judged.{log_fault};
-    ghost use Rattle.log_model.specs.Grammar.{IsLawfulLog};
+    ghost use Rattle.log_model.specs.Grammar.{IsValidLog};
     ghost use Rattle.prune_log.specs.Reading.{log_at, frames_at};
     ghost use Rattle.job_logs.specs.Lines.{log_words};
 
     ghost words = { log_words };
 
-    ghost is_lawful = { IsLawfulLog };
+    ghost is_valid = { IsValidLog };
 
     ghost reads = { frames_at log_at };
 
-    ghost tells = { λ c. IsTrue (P.shelf c.pages.now).tells };
+    ghost is_known = { λ c. IsTrue (P.shelf c.pages.now).is_known };
 
     ghost judges = { λ c. log_fault (mix_space (mix_kind c.space) (mix_dim c.space)) (P.shelf c.pages.now).read c.live };
 

@@ -54,12 +54,12 @@ end_text report.Answers true = codes "log complete\n"
 -- ---- what a job says
 
 -- pieces of text, and the status that stands at their end
-pub record Saying : Type 0 where
+pub record JobReport : Type 0 where
   pub texts : List (List ℕ)
   pub status : ℕ
 
 -- what is said of bytes that were read as logs, or that have a fault
-abbrev pub on_logs : {L V : Type 0} → Words L V → Report → (L → Option V) → Result (List L) LogFault → Saying
+abbrev pub on_logs : {L V : Type 0} → Words L V → Report → (L → Option V) → Result (List L) LogFault → JobReport
 on_logs words what judge (Err why) = record { texts = undecoded_text why ∷ []; status = 1 }
 on_logs words what judge (Ok logs) = record {
   texts = frame_texts words what judge 0 logs ++ end_text what (are_sound judge logs) ∷ [];
@@ -72,6 +72,6 @@ file_text name None = name ++ codes " sound\n"
 file_text name (Some why) = name ++ space ++ rejected_text why
 
 -- what is said of a file with its first fault, and where it has none, what else there is to say
-abbrev pub on_file : List ℕ → Option AuditFault → Saying → Saying
+abbrev pub on_file : List ℕ → Option AuditFault → JobReport → JobReport
 on_file name (Some why) rest = record { texts = file_text name (Some why) ∷ []; status = 1 }
 on_file name None rest = record { texts = file_text name None ∷ rest.texts; status = rest.status }

@@ -1,7 +1,7 @@
 ghost use Rattle.std.specs.Prelude.{◌≡◌, ◌≤◌, ◌+◌, ◌++◌, ℕ, List, Option, Result, All, IfOk, IsErrOf, OnOk};
 ghost use Rattle.prune_log.specs.Reading.{Gives};
 ghost use Rattle.prune_log.specs.declared.fault.LogFault.{LogFault};
-ghost use Rattle.job_files.specs.Logs.Sayings.{Words};
+ghost use Rattle.job_files.specs.Logs.JobReports.{Words};
 
 use crate::logs::stop::LogStop;
 use outside_io::Memory;
@@ -9,7 +9,7 @@ use prune_log::LogFault;
 use std::alloc::Global;
 
 /// A judge of logs of one kind, by the pages of files.
-pub trait Court {
+pub trait Checker {
     /// A log.
     type Log: Drop;
     /// The first fault of a log.
@@ -19,13 +19,13 @@ pub trait Court {
     ghost words: { Words Self.Log Self.Verdict };
 
     /// Which logs can be judged.
-    ghost is_lawful: { Self.Log → Type 0 };
+    ghost is_valid: { Self.Log → Type 0 };
 
     /// The logs that bytes spell, or the first fault of the bytes.
     ghost reads: { List ℕ → Result (List Self.Log) LogFault };
 
     /// The pages tell what they hold.
-    ghost tells: { Self → Type 0 };
+    ghost is_known: { Self → Type 0 };
 
     /// The first fault of each log, if it has one.
     ghost judges: { Self → Self.Log → Option Self.Verdict };
@@ -45,7 +45,7 @@ pub trait Court {
     /// Reads the logs of the frames in `bytes`.
     fn read_frames(alloc: Global, bytes: &[u8]) -> Result<Vec<Self::Log>, LogFault>
         ensures gives { Gives (λ logs. logs.items) result (reads bytes.now) }
-        ensures lawful { IfOk result (λ logs. All is_lawful logs.items) };
+        ensures valid { IfOk result (λ logs. All is_valid logs.items) };
 
     /// Appends the verdict `why`.
     fn push_verdict(why: Self::Verdict, out: &mut Vec<u8>) -> Result<(), Memory>
@@ -57,9 +57,9 @@ pub trait Court {
 
     /// Returns the first fault of `log`, if it has one.
     fn judge(&mut self, alloc: Global, log: &Self::Log) -> Result<Option<Self::Verdict>, LogStop>
-        requires { is_lawful log.now }
-        ensures told { IfOk result (λ found. tells self.old → judges self.old log.now ≡ found) }
-        ensures tells { tells self.old → tells self.new }
+        requires { is_valid log.now }
+        ensures told { IfOk result (λ found. is_known self.old → judges self.old log.now ≡ found) }
+        ensures is_known { is_known self.old → is_known self.new }
         ensures judges { judges self.new ≡ judges self.old }
         ensures keeps { keeps self.old self.new }
         ensures few { read_count self.new ≤ read_count self.old + most_reads log.now }

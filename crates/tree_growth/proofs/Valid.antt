@@ -12,7 +12,7 @@ use Rattle.tree_growth.specs.Dealing.{IsPair, Ball, is_on, Table, size, apart, t
 use Rattle.tree_growth.specs.Insertion.{taken, left, inserted, rules, Grown, One, Two, new_root, placed}
 use Rattle.tree_shape.specs.Plain.{Object, Plain, Tall}
 use Rattle.tree_shape.specs.Sound.{ObjectFits, IsSoundPlain, IsSoundTall}
-use Rattle.tree_growth.proofs.Kept.{inserted_sound, Reaches, IsLawfulSplit, IsLawful, IsSoundGrown}
+use Rattle.tree_growth.proofs.Kept.{inserted_sound, Reaches, IsValidSplit, IsValid, IsSoundGrown}
 use Rattle.tree_growth.specs.declared.rules.Side.{Side}
 use Rattle.tree_growth.specs.declared.rules.Side.TheVariants.{First, Second, Open}
 use Rattle.tree_growth.proofs.Fair.{tally_sides, IsFair, fair, in_range}
@@ -123,16 +123,16 @@ point_inside [] i low = absurd (omega arith)
 point_inside (b ∷ bs) zero low = inl refl
 point_inside (b ∷ bs) (suc i) low = inr (point_inside bs i (omega arith))
 
--- the split of the rules is lawful, once the promoted pair is one of places
-pub split_lawful : (s : Space) (promote split : ℕ) (bs : List Ball) → 1 ≤ least_for s.words → least_for s.words + least_for s.words ≤ length bs →
-    IsPair (length bs) (promoted (table_of s bs) promote split (least_for s.words)) → IsLawfulSplit s bs (split_of s promote split (least_for s.words) bs)
-split_lawful s promote split bs some room pair =
+-- the split of the rules is valid, once the promoted pair is one of places
+pub split_valid : (s : Space) (promote split : ℕ) (bs : List Ball) → 1 ≤ least_for s.dimension → least_for s.dimension + least_for s.dimension ≤ length bs →
+    IsPair (length bs) (promoted (table_of s bs) promote split (least_for s.dimension)) → IsValidSplit s bs (split_of s promote split (least_for s.dimension) bs)
+split_valid s promote split bs some room pair =
     let n = length_map (λ (b : Ball). b.1) bs in
     let l = pair.0 in
     let h = pair.1 in
-    let p : ℕ × ℕ = promoted (table_of s bs) promote split (least_for s.words) in
-    let sides : List Side = partitioned (table_of s bs) p.0 p.1 split (least_for s.words) in
-    let f : IsFair (size (table_of s bs)) p.0 p.1 (least_for s.words) sides = fair (table_of s bs) p.0 p.1 split (least_for s.words) (omega arith) (omega arith) (λ same. absurd (omega arith)) some (omega arith) in
+    let p : ℕ × ℕ = promoted (table_of s bs) promote split (least_for s.dimension) in
+    let sides : List Side = partitioned (table_of s bs) p.0 p.1 split (least_for s.dimension) in
+    let f : IsFair (size (table_of s bs)) p.0 p.1 (least_for s.dimension) sides = fair (table_of s bs) p.0 p.1 split (least_for s.dimension) (omega arith) (omega arith) (λ same. absurd (omega arith)) some (omega arith) in
     let long : length sides ≡ length bs = f.holds.long ∙ n in
     let u = f.first_enough in
     let v = f.second_enough in
@@ -169,31 +169,31 @@ promoted_pair t promote split least two = cases (pairs (size t)) (λ p k. pair_i
     cases [] h = (omega arith, omega arith)
     cases (p ∷ ps) h = h (least_from (pair_cost t promote split least) p ps) (least_in (pair_cost t promote split least) p ps)
 
--- the rules are lawful
-pub rules_lawful : (s : Space) (promote split : ℕ) → 1 ≤ least_for s.words → IsLawful s (rules s promote split)
-rules_lawful s promote split some = record {
+-- the rules are valid
+pub rules_valid : (s : Space) (promote split : ℕ) → 1 ≤ least_for s.dimension → IsValid s (rules s promote split)
+rules_valid s promote split some = record {
   most_is = refl;
   dist_is = refl;
   chooses = λ bs p k. chosen_low s bs p k;
-  splits = λ bs long. split_lawful s promote split bs some (omega arith)
-      (let n = length_map (λ (b : Ball). b.1) bs in subst (λ (k : ℕ). IsPair k (promoted (table_of s bs) promote split (least_for s.words))) n (promoted_pair (table_of s bs) promote split (least_for s.words) (omega arith)));
+  splits = λ bs long. split_valid s promote split bs some (omega arith)
+      (let n = length_map (λ (b : Ball). b.1) bs in subst (λ (k : ℕ). IsPair k (promoted (table_of s bs) promote split (least_for s.dimension))) n (promoted_pair (table_of s bs) promote split (least_for s.dimension) (omega arith)));
 }
 
 -- so an insertion by the rules keeps a sound tree sound
-pub inserted_by_rules : (s : Space) → IsSpace s → 1 ≤ least_for s.words → (promote split : ℕ) (o : Object) → ObjectFits s o → (h least : ℕ) (t : Plain h) → (0 < h → 1 ≤ least) → IsSoundPlain s h least t →
+pub inserted_by_rules : (s : Space) → IsSpace s → 1 ≤ least_for s.dimension → (promote split : ℕ) (o : Object) → ObjectFits s o → (h least : ℕ) (t : Plain h) → (0 < h → 1 ≤ least) → IsSoundPlain s h least t →
     IsSoundGrown s h least (inserted (rules s promote split) o h t)
-inserted_by_rules s space some promote split o fits h least t filled sound = inserted_sound s space some (rules s promote split) (rules_lawful s promote split some) o fits h least t filled sound
+inserted_by_rules s space some promote split o is_point h least t filled sound = inserted_sound s space some (rules s promote split) (rules_valid s promote split some) o is_point h least t filled sound
 
 -- a new root has two entries
-pub new_root_sound : (s : Space) → s.words ≤ 64 → (h : ℕ) (g : Grown (Plain h)) → IsSoundGrown s h (root_least h) g → IsSoundTall s (new_root h g)
+pub new_root_sound : (s : Space) → s.dimension ≤ 64 → (h : ℕ) (g : Grown (Plain h)) → IsSoundGrown s h (root_least h) g → IsSoundTall s (new_root h g)
 new_root_sound s few h (One t) sound = sound
 new_root_sound s few h (Two c d) sound =
-    let three = three_at_least s.words few in (record { enough = omega arith; at_most = omega arith }, (sound.0, (sound.1, tt)))
+    let three = three_at_least s.dimension few in (record { enough = omega arith; at_most = omega arith }, (sound.0, (sound.1, tt)))
 
 pub insertion_keeps_sound : (s : Space) → IsSpace s → (promote split : ℕ) (o : Object) → ObjectFits s o → (t : Tall) → IsSoundTall s t → IsSoundTall s (placed s promote split o t)
-insertion_keeps_sound s space promote split o fits t sound =
+insertion_keeps_sound s space promote split o is_point t sound =
     new_root_sound s space.few_words t.height (inserted (rules s promote split) o t.height t.tree)
-    (inserted_by_rules s space (let three = three_at_least s.words space.few_words in omega arith) promote split o fits t.height (root_least t.height) t.tree (some t.height) sound)
+    (inserted_by_rules s space (let three = three_at_least s.dimension space.few_words in omega arith) promote split o is_point t.height (root_least t.height) t.tree (some t.height) sound)
   where
     some : (h : ℕ) → 0 < h → 1 ≤ root_least h
     some zero high = absurd (omega arith)

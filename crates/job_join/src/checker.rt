@@ -1,6 +1,6 @@
 use crate::first_join_fault::first_join_fault;
 use crate::lines::{push_answers, push_verdict};
-use job_files::logs::{Court, LogStop};
+use job_files::logs::{Checker, LogStop};
 use log_model::JoinLog;
 use log_verify::JoinVerdict;
 use metric_mix::MixSpace;
@@ -12,7 +12,7 @@ use tree_shape::Live;
 
 /// Judges joins' logs by the pages of two trees.
 #[derive(Drop)]
-pub struct JoinCourt<'a, 'b, P: Pages, Q: Pages> {
+pub struct JoinChecker<'a, 'b, P: Pages, Q: Pages> {
     /// The space of both trees.
     pub space: MixSpace,
     /// The left live tree.
@@ -25,7 +25,7 @@ pub struct JoinCourt<'a, 'b, P: Pages, Q: Pages> {
     pub right_pages: &'b mut Q,
 }
 
-impl<P: Pages, Q: Pages> Court for JoinCourt<'_, '_, P, Q> {
+impl<P: Pages, Q: Pages> Checker for JoinChecker<'_, '_, P, Q> {
     type Log = JoinLog;
 
     type Verdict = JoinVerdict;
@@ -34,18 +34,18 @@ impl<P: Pages, Q: Pages> Court for JoinCourt<'_, '_, P, Q> {
     ghost use Rattle.outside_io.specs.Causes.{Rose};
     ghost use Rattle.metric_mix.specs.MixSpaces.{mix_space};
     ghost use Rattle.metric_mix.specs.MixKinds.{mix_kind, mix_dim};
-    ghost use Rattle.log_model.specs.Grammar.{IsLawfulJoinLog};
+    ghost use Rattle.log_model.specs.Grammar.{IsValidJoinLog};
     ghost use Rattle.prune_log.specs.Reading.{join_log_at, frames_at};
     ghost use Rattle.job_join.specs.Lines.{join_words};
     ghost use Rattle.job_join.specs.Trees.{judge_by};
 
     ghost words = { join_words };
 
-    ghost is_lawful = { IsLawfulJoinLog };
+    ghost is_valid = { IsValidJoinLog };
 
     ghost reads = { frames_at join_log_at };
 
-    ghost tells = { λ c. IsTrue (P.shelf c.left_pages.now).tells × IsTrue (Q.shelf c.right_pages.now).tells };
+    ghost is_known = { λ c. IsTrue (P.shelf c.left_pages.now).is_known × IsTrue (Q.shelf c.right_pages.now).is_known };
 
     ghost judges = { λ c.
         judge_by (mix_space (mix_kind c.space) (mix_dim c.space)) (P.shelf c.left_pages.now) (Q.shelf c.right_pages.now) c.left c.right };

@@ -3,9 +3,9 @@ use Rattle.std.proofs.lemmas.Grind.{common_steps}
 use Rattle.std.specs.Option.{option_copied}
 use Rattle.log_model.specs.declared.marks.Need.{Need}
 use Rattle.nearest_search.specs.Keeping.{kept_seen}
-use Rattle.nearest_search.specs.Relog.{IsWalk}
-use Rattle.nearest_search.proofs.Explored.{relog_steps}
-use Rattle.nearest_search.proofs.logging.relog.Goals as goal
+use Rattle.nearest_search.specs.RebuiltLog.{IsWalk}
+use Rattle.nearest_search.proofs.Explored.{rebuilding_steps}
+use Rattle.nearest_search.proofs.logging.rebuild_log.Goals as goal
 
 pub loop-need-preserved : goal.loop-need-preserved
 loop-need-preserved c =
@@ -14,7 +14,7 @@ loop-need-preserved c =
     record {
       count = (let n = c.loop-need.invariant.count in omega arith);
       low = omega arith;
-      walk = relog_steps c.args.rho (kept_seen c.args.kept.now) c.args.live.now.root c.loop-need.walk c.take_seen.new.walk
+      walk = rebuilding_steps c.args.rho (kept_seen c.args.kept.now) c.args.live.now.root c.loop-need.walk c.take_seen.new.walk
           c.in-Some.need (reverse c.pop.new.self.items) c.in-Some-get.seen.now stack c.requires (search rules)
           (record { hits = c.loop-need.walk.hits; records = c.loop-need.walk.records; stack = c.pop.new.self }) refl refl refl c.in_ok-take_seen.ensures c.loop-need.invariant.walk;
     }

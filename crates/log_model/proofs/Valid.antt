@@ -13,7 +13,7 @@ use Rattle.log_model.specs.declared.marks.Mark.{Mark}
 use Rattle.log_model.specs.declared.marks.Mark.TheVariants.{Skip, Far, Near}
 use Rattle.log_model.specs.Counts.{entry_count}
 use Rattle.log_model.specs.Walk.{Search, near_ones, least_for_object, least_for_subtree, least_marks, hits_of, hit_of}
-use Rattle.log_model.specs.Grammar.{IsLawfulQuery, IsLawfulLog}
+use Rattle.log_model.specs.Grammar.{IsValidQuery, IsValidLog}
 use Rattle.log_model.specs.InOrder.{put_once, in_order, hit_before}
 use Rattle.log_model.specs.Sound.{selected}
 use Rattle.log_model.proofs.Order.{rising-in_order}
@@ -47,9 +47,9 @@ pub ascends-selected : (query : Query) (hits : List Hit) → Ascends HitBefore (
 ascends-selected (Range q r) hits = ascending_hits (in_order hit_before hits) (rising-in_order hit_before hit_order hits)
 ascends-selected (Nearest q k) hits = ascends_take HitBefore k (in_order hit_before hits) (ascending_hits (in_order hit_before hits) (rising-in_order hit_before hit_order hits))
 
-pub lawful_log : (log : Log) (hits : List Hit) → IsLawfulQuery log.query → log.answers ≡ selected log.query hits → length hits < 2 ^ 32 → length log.records < 2 ^ 32 →
-    AllByRecursion (λ r. length r.marks ≤ 32) log.records → IsLawfulLog log
-lawful_log log hits query is few_hits few_records marks = record {
+pub valid_log : (log : Log) (hits : List Hit) → IsValidQuery log.query → log.answers ≡ selected log.query hits → length hits < 2 ^ 32 → length log.records < 2 ^ 32 →
+    AllByRecursion (λ r. length r.marks ≤ 32) log.records → IsValidLog log
+valid_log log hits query is few_hits few_records marks = record {
   query = query;
   answers_ascend = subst (Ascends HitBefore) (sym is) (ascends-selected log.query hits);
   few_answers = subst (λ (l : List Hit). length l < 2 ^ 32) (sym is) (let l = length-selected log.query hits in omega arith);
