@@ -43,8 +43,26 @@ fn tell_refused(rt: &HostRuntime, refusal: &Refusal<&str, io::Error>) {
     }
 }
 
-// Says what is wrong with words that are no job.
+// Returns whether the words ask for help. No command takes such an option.
+fn ask_for_help(words: &[String]) -> bool {
+    words
+        .iter()
+        .any(|word| word.as_str() == "--help" || word.as_str() == "-h")
+}
+
+// Names the commands.
+fn tell_commands(rt: &HostRuntime) {
+    let _ = eprintln!(rt;
+        "mtree: the commands are audit, batch, check, create, dump, gen, join, migrate, proof, scan, seal, session, shape, show, stats and verify"
+    );
+    let _ = eprintln!(rt; "mtree: docs/COMMANDS.md and the man page describe them");
+}
+
+// Says what is wrong with words that are no job. Names the commands where the words name none, and where they ask for help.
 fn tell_complaint(rt: &HostRuntime, words: &[String]) {
+    if ask_for_help(words) {
+        return tell_commands(rt);
+    }
     let Ok(Some(complaint)) = complaint_on(rt.alloc(), words) else {
         return;
     };
@@ -55,6 +73,9 @@ fn tell_complaint(rt: &HostRuntime, words: &[String]) {
         },
         other => eprintln!(rt; "mtree: {}", other),
     };
+    if matches!(complaint, Complaint::NoCommand | Complaint::NoSuchCommand(_)) {
+        tell_commands(rt);
+    }
 }
 
 // Says how many commands of a script were refused, and which was the first.
