@@ -117,7 +117,7 @@ fn carried_frame<D: Disk>(
 }
 
 // Returns the frame and the line of a log with its first fault or none, and whether it has none.
-// Clauses: what is asked of the caller (`head`, `some`, `few`, `size`, `sealed`, `valid`, `told`); the answer (`is_known`); what stays
+// Clauses: what is asked of the caller (`head`, `some`, `few`, `size`, `sealed`, `valid`, `told`); the answer (`texts`); what stays
 // (`same`); the cause of an error (`disk`, `not_sink`); faults of the devices (`later`).
 // Arguments: `index`, `opened` and `tree` are the file, its head and live slot, and its digests, and `number`, `log` and `found` are the
 // frame's number, its log and the log's first fault or none.
@@ -138,7 +138,7 @@ fn log_texts<D: Disk>(
     requires valid { IsValidLog log.now }
     requires told { IsTrue (D.state index.old).is_known → judged (D.state index.old).bytes opened.now.0 opened.now.1 log.now ≡ found }
     ensures same { IsUnchanged (D.state index.old) (D.state index.new) }
-    ensures is_known { IfOk result (λ x. IsTrue (D.state index.old).is_known →
+    ensures texts { IfOk result (λ x. IsTrue (D.state index.old).is_known →
         TellsLog (D.state index.old).bytes opened.now.0 opened.now.1 number log.now x.0.items x.1.items x.2) }
     ensures disk { IsErrOf result LogStop.Disk → Rose (D.state index.old).faults (D.state index.new).faults }
     ensures not_sink { IsErrOf result LogStop.Sink → ⊥ }

@@ -34,7 +34,7 @@ fn frame_text(
     frame: u64,
     body: &[u8],
 ) -> Result<(Vec<u8>, bool), ProofStop>
-    ensures is_known { IfOk result (λ x. TellsFrame root.now frame body.now x.0.items x.1) }
+    ensures text { IfOk result (λ x. TellsFrame root.now frame body.now x.0.items x.1) }
     ensures memory { IfErr result (λ why. why ≡ ProofStop.Memory) }
 {
     match judge(alloc, root, body) {
