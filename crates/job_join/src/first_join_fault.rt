@@ -16,7 +16,7 @@ use tree_shape::Live;
 /// or memory runs out, nothing is said of the log.
 /// Clauses: what is asked of the caller (the one without a name); the answer (`told`); what stays (`same`, `left_keeps`, `right_keeps`);
 /// the cost (`reads`); the cause of an error (`disk`, `not_sink`).
-/// Arguments: each tree is `left_pages` or `right_pages` with its slot.
+/// Arguments: `left_pages` with `left`, and `right_pages` with `right`, are the two trees.
 pub fn first_join_fault<M: Metric, P: Pages, Q: Pages>(
     alloc: Global,
     metric: M,

@@ -38,7 +38,7 @@ fn given_rows(
 
 /// Does what `mtree_session_plan` does for a load of all rows into an index that is empty. `count` rows of `width` numbers stand one after
 /// another in `rows`. Where they are `tagged`, row i has the tag i of `tags`, else its id. The reply is that of `tload`, or of `load`. A
-/// row of another number of coordinates than the index has is refused. With status 2 these are no such rows.
+/// row of another number of coordinates than the index has is refused. Status 2: these are no such rows.
 /// Arguments: `rows`, `width`, `count`, `tagged` and `tags` are the rows, and `steps`, `written`, `text`, `log` and `sizes` are the
 /// caller's own buffers.
 #[unsafe(no_mangle)]

@@ -83,7 +83,7 @@ fn marks_of(counts_only: bool) -> Marks
 /// rows. `migrate` makes it an index of the objects of `other`, a file of version 1. `session` runs the script of `input` on `index`
 /// and puts the log of each query to `log_out`. `batch` runs the script's queries by several threads. `shape` writes the shape of
 /// the tree, `stats` what is known of it without its objects, and `dump` the objects as a script. `show` shows the walks of the logs of
-/// `log_in`. `audit` tells whether it is sound. `verify` judges the logs of `log_in` by it, and `check` does both. `join` joins
+/// `log_in`. `audit` tells whether `index` is sound. `verify` judges the logs of `log_in` by it, and `check` does both. `join` joins
 /// `index` with `other` and puts its log to `log_out`. With `--other`, `verify`, `check` and `show` take join logs and both indexes. `seal`
 /// writes the root digest of the whole file of `index`. `proof` with an index puts each log of `log_in` to `log_out` with the pages
 /// that it names. `proof` with a digest judges such carried logs of `log_in` by the digest alone.

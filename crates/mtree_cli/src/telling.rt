@@ -73,7 +73,10 @@ fn tell_complaint(rt: &HostRuntime, words: &[String]) {
         },
         other => eprintln!(rt; "mtree: {}", other),
     };
-    if matches!(complaint, Complaint::NoCommand | Complaint::NoSuchCommand(_)) {
+    if matches!(
+        complaint,
+        Complaint::NoCommand | Complaint::NoSuchCommand(_)
+    ) {
         tell_commands(rt);
     }
 }

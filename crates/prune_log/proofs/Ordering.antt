@@ -11,7 +11,7 @@ use Rattle.prune_log.proofs.Exact.{Chain}
 
 -- a test that tells an order
 record IsOrder {X : Type 0} (Before : X → X → Type 0) (follows : X → X → Bool) : Type 0 where
-  is_known : (a b : X) → follows a b ≡ true → Before a b
+  shows : (a b : X) → follows a b ≡ true → Before a b
   told : (a b : X) → Before a b → follows a b ≡ true
   before : (a b c : X) → Before a b → Before b c → Before a c
 
@@ -22,7 +22,7 @@ behind_all Before follows order a b first (x ∷ xs) all = (order.before a b x f
 ascends_behind : {X : Type 0} (Before : X → X → Type 0) (follows : X → X → Bool) → IsOrder Before follows → (a : X) (xs : List X) → Chain follows (Some a) xs → AllByRecursion (Before a) xs × Ascends Before xs
 ascends_behind Before follows order a [] chain = (tt, tt)
 ascends_behind Before follows order a (x ∷ xs) chain =
-    let here = order.is_known a x chain.0 in
+    let here = order.shows a x chain.0 in
     let rest = ascends_behind Before follows order x xs chain.1 in
     ((here, behind_all Before follows order a x here xs rest.0), (rest.0, rest.1))
 
@@ -40,8 +40,8 @@ chains Before follows order (x ∷ xs) up = (refl, chain_behind Before follows o
 
 -- ---- hits
 
-hit_known : (d e i j : ℕ) → (nat_lt d e || ((d == e) && nat_lt i j)) ≡ true → (d < e) ⊎ ((d ≡ e) × (i < j))
-hit_known d e i j is = grind (arith, nat_tests)
+hit_shows : (d e i j : ℕ) → (nat_lt d e || ((d == e) && nat_lt i j)) ≡ true → (d < e) ⊎ ((d ≡ e) × (i < j))
+hit_shows d e i j is = grind (arith, nat_tests)
 
 hit_told : (d e i j : ℕ) → (d < e) ⊎ ((d ≡ e) × (i < j)) → (nat_lt d e || ((d == e) && nat_lt i j)) ≡ true
 hit_told d e i j is = grind (arith, nat_tests)
@@ -54,7 +54,7 @@ hit_before a b c (inr x) (inr y) = inr (omega arith, omega arith)
 
 hit_order : IsOrder HitBefore hit_follows
 hit_order = record {
-  is_known = λ a b is. hit_known a.dist b.dist a.id b.id is;
+  shows = λ a b is. hit_shows a.dist b.dist a.id b.id is;
   told = λ a b is. hit_told a.dist b.dist a.id b.id is;
   before = hit_before;
 }
@@ -67,8 +67,8 @@ hits_chain hits up = chains HitBefore hit_follows hit_order hits up
 
 -- ---- pairs
 
-pair_known : (a b c d e f : ℕ) → (nat_lt a b || ((a == b) && (nat_lt c d || ((c == d) && nat_lt e f)))) ≡ true → (a < b) ⊎ ((a ≡ b) × ((c < d) ⊎ ((c ≡ d) × (e < f))))
-pair_known a b c d e f is = grind (arith, nat_tests)
+pair_shows : (a b c d e f : ℕ) → (nat_lt a b || ((a == b) && (nat_lt c d || ((c == d) && nat_lt e f)))) ≡ true → (a < b) ⊎ ((a ≡ b) × ((c < d) ⊎ ((c ≡ d) × (e < f))))
+pair_shows a b c d e f is = grind (arith, nat_tests)
 
 pair_told : (a b c d e f : ℕ) → (a < b) ⊎ ((a ≡ b) × ((c < d) ⊎ ((c ≡ d) × (e < f)))) → (nat_lt a b || ((a == b) && (nat_lt c d || ((c == d) && nat_lt e f)))) ≡ true
 pair_told a b c d e f is = grind (arith, nat_tests)
@@ -84,7 +84,7 @@ pair_before a b c (inr (x, inr u)) (inr (y, inr v)) = inr (omega arith, inr (ome
 
 pair_order : IsOrder JoinedBefore pair_follows
 pair_order = record {
-  is_known = λ a b is. pair_known a.left b.left a.right b.right a.dist b.dist is;
+  shows = λ a b is. pair_shows a.left b.left a.right b.right a.dist b.dist is;
   told = λ a b is. pair_told a.left b.left a.right b.right a.dist b.dist is;
   before = pair_before;
 }

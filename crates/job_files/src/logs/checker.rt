@@ -8,7 +8,7 @@ use outside_io::Memory;
 use prune_log::LogFault;
 use std::alloc::Global;
 
-/// A judge of logs of one kind, by the pages of files.
+/// Judges logs of one kind by the pages of files.
 pub trait Checker {
     /// A log.
     type Log: Drop;
