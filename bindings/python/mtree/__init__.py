@@ -9,12 +9,12 @@
 file.
 
 The answers are those of the proved library `libmtree.so`, or of the proved program `mtree`: on a sound file those of a plain scan of its
-objects. The library is the file beside this module, or the one that the variable MTREE_LIBRARY names. The program makes and fills an
-index, as a child process. It is `mtree_cli` beside this module, the one that a clone has built, the one that the variable MTREE_PROGRAM
+objects. The library is the file beside this module, or the one that the variable MTREE_LIBRARY names. The program, a child process, makes
+an index, and fills it where the library is not there. It is `mtree_cli` beside this module, the one that a clone has built, the one that the variable MTREE_PROGRAM
 names, or `mtree` where the shell finds it.
 
-Where only the program is there, queries start it too. Logs, `audit`, `verify`, `check`, `show`, `explain` and `prove` need the library, and raise `NoLibrary`
-without it. Arrays need numpy. Without it lists work.
+Where only the program is there, queries start it too. Logs, `audit`, `verify`, `check`, `show`, `explain` and `prove` need the library, and
+raise `NoLibrary` without it. Arrays need numpy. Without it lists work.
 
 All but the calls into the library and the program is tested, not proved."""
 

@@ -1,4 +1,4 @@
-"""The program `mtree` as a child process. It is what writes an index."""
+"""The program `mtree` as a child process. It makes an index, and writes one where the library is not there."""
 
 from __future__ import annotations
 
