@@ -3,7 +3,7 @@
 mod auditing;
 mod checker;
 mod ending;
-mod first_fault;
+mod faults;
 mod judging;
 mod lines;
 mod putting;
@@ -13,7 +13,7 @@ mod stop;
 pub use auditing::put_audit;
 pub use checker::Checker;
 pub use ending::{end_stopped, read_logs};
-pub use first_fault::first_fault;
+pub use faults::first_fault;
 pub use judging::judge_bytes;
 pub use lines::{
     log_fault_name, push_answers, push_frame, push_state, push_verdict, undecoded_text,

@@ -1,4 +1,4 @@
-use crate::first_join_fault::first_join_fault;
+use crate::faults::first_join_fault;
 use crate::lines::{push_answers, push_verdict};
 use job_files::logs::{Checker, LogStop};
 use log_model::JoinLog;

@@ -2,14 +2,14 @@
 #![tactic(auto)]
 
 mod checker;
-mod first_join_fault;
+mod faults;
 mod jobs;
 mod joining;
 pub mod laws;
 mod lines;
 mod opened;
 
-pub use first_join_fault::first_join_fault;
+pub use faults::first_join_fault;
 pub use jobs::{check_join_logs, join_indexes, open_both, verify_join_logs};
 pub use lines::{push_answers, push_verdict, side_name};
 pub use opened::{REJECTED_SPACES, Trees};
