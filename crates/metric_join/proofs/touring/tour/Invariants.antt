@@ -1,13 +1,13 @@
-use Rattle.std.proofs.Common.{◌≡◌, ◌-◌, reverse}
-use Rattle.metric_join.proofs.Course.{IsTouring}
+use Rattle.std.proofs.Common.{◌≡◌, ◌-◌, ℕ, List}
+use Rattle.page_tour.specs.Courses.{IsOnTour}
 use Rattle.metric_join.proofs.touring.tour.Given as goal
 
-abbrev pub invariant-loop-page : goal.invariant-loop-page
-invariant-loop-page g l = record {
-  no_fault : (g.P.Pages.shelf l.pages).faults ≡ (g.P.Pages.shelf l.fn.pages).faults;
+abbrev pub invariant-loop-tour : goal.invariant-loop-tour
+invariant-loop-tour g l = record {
   keeps : g.P.Pages.keeps l.fn.pages l.pages;
-  way : IsTouring l.live (g.P.Pages.shelf l.fn.pages) (g.P.Pages.shelf l.pages) l.opened (reverse l.stack.items);
+  no_fault : (g.P.Pages.shelf l.pages).faults ≡ (g.P.Pages.shelf l.fn.pages).faults;
+  way : (opened : List ℕ) × IsOnTour (g.P.Pages.shelf l.fn.pages) (g.P.Pages.shelf l.pages) l.live l.tour opened;
 }
 
-abbrev pub decreases-loop-page : goal.decreases-loop-page
-decreases-loop-page g l = l.live.pages - l.opened
+abbrev pub decreases-loop-tour : goal.decreases-loop-tour
+decreases-loop-tour g l = l.tour.most - l.tour.opened
