@@ -1,215 +1,104 @@
 -- The walk that collects the objects of a tree.
-use Rattle.std.proofs.Common.{◌≡◌, ℕ, zero, suc, ◌+◌, ◌<◌, ◌≤◌, List, [], ◌∷◌, ◌++◌, refl, sym, ap, ◌∙◌, arith, length, length-append, append_assoc, subst, Option, Some, None, Err}
+use Rattle.std.proofs.Common.{◌≡◌, ℕ, zero, suc, ◌+◌, ◌≤◌, List, [], ◌∷◌, ◌++◌, refl, sym, ap, ◌∙◌, append_assoc, subst, Option, Some}
 use Rattle.std.specs.Prelude.{IsTrue, map}
 use Rattle.std.specs.List.{AllByRecursion, flat_map}
 use Rattle.std.proofs.lemmas.List.{append-nil}
-use Rattle.outside_io.specs.Causes.{Rose}
 use Rattle.metric_laws.specs.Space.{Space}
-use Rattle.metric_laws.proofs.Published.{all_append, all_weaker, flat_map-append, flat_map-map}
+use Rattle.metric_laws.proofs.Published.{flat_map-append}
 use Rattle.tree_shape.specs.declared.entry.InnerEntry.{InnerEntry}
 use Rattle.tree_shape.specs.declared.entry.LeafEntry.{LeafEntry}
 use Rattle.tree_shape.specs.declared.entry.Node.{Node}
 use Rattle.tree_shape.specs.declared.entry.Node.TheVariants.{Leaf, Inner}
 use Rattle.tree_shape.specs.declared.live.Live.{Live}
 use Rattle.tree_shape.specs.Fill.{least_for, root_least}
-use Rattle.tree_shape.specs.Tree.{Nodes, IsSoundAt, IsSoundTree, IsSoundEntry, IsNodePage, inner_entries, leaf_entries, objects, objects_at, pages_at}
-use Rattle.tree_shape.proofs.Published.{few}
-use Rattle.page_store.specs.declared.pages.PageFault.{PageFault}
-use Rattle.page_store.specs.declared.pages.PageFault.TheVariants.{Disk, Bad, Outside, Memory, Repeats, Level}
-use Rattle.page_store.specs.Reading.{Read, nodes_of, node_or_none}
-use Rattle.page_store.specs.Shelf.{Shelf, HoldsSame, HasPageCause, IsPassing}
-use Rattle.log_model.proofs.Published.{same_node}
-use Rattle.job_make.specs.Collecting.{IsOpened}
-use Rattle.page_store.proofs.Published.{holds_both, told_then}
+use Rattle.tree_shape.specs.Tree.{Nodes, IsSoundAt, IsSoundTree, IsSoundEntry, inner_entries, leaf_entries, objects, objects_at}
+use Rattle.page_store.specs.Reading.{nodes_of}
+use Rattle.page_store.specs.Shelf.{Shelf, HoldsSame}
+use Rattle.page_store.specs.Tours.{Tours, children}
+use Rattle.page_store.proofs.Published.{same_some, told_then}
+use Rattle.page_tour.specs.Courses.{Course, IsOnTour, OpensNext}
+use Rattle.page_tour.proofs.Published.{tour_begins, tour_goes_on}
 
--- a page that is still to come, in a sound tree
-record Spot : Type 0 where
-  page : ℕ
-  height : ℕ
-  least : ℕ
-  above : Option (List ℕ)
+-- the objects on some pages
+abbrev objects_on : Nodes → List ℕ → List LeafEntry
+objects_on nodes pages = flat_map (λ page. leaf_entries (nodes page)) pages
 
-abbrev IsSoundSpot : Space → Nodes → Spot → Type 0
-IsSoundSpot s nodes p = IsSoundAt s nodes p.height p.least p.above p.page
+-- a walk is on its way, and the objects on the pages that it opened are found
+pub record IsCollecting (old now : Shelf) (live : Live) (course : Course) (found : List LeafEntry) : Type 0 where
+  pub opened : List ℕ
+  pub tour : IsOnTour old now live course opened
+  pub are : IsTrue old.is_known → found ≡ objects_on (nodes_of old.read) opened
 
--- the objects and the pages that are still to come
-abbrev objects_left : Nodes → List Spot → List LeafEntry
-objects_left nodes spots = flat_map (λ p. objects_at nodes p.height p.page) spots
+-- ---- the whole walk of a sound tree meets its objects, in order
 
-abbrev pages_left : Nodes → List Spot → List ℕ
-pages_left nodes spots = flat_map (λ p. pages_at nodes p.height p.page) spots
+module _ (s : Space) (nodes : Nodes) where
+  abbrev IsBelow : ℕ → Option (List ℕ) → InnerEntry → Type 0
+  IsBelow h above e = IsSoundEntry s above (objects_at nodes h e.child) e × IsSoundAt s nodes h (least_for s.dimension) (Some e.point) e.child
 
--- the objects found so far and those still to come are the tree's; the same holds for the pages, and `opened` pages were opened
-record AreFront (s : Space) (nodes : Nodes) (t : Live) (found : List LeafEntry) (opened : ℕ) (coming : List ℕ) : Type 0 where
-  spots : List Spot
-  sound : AllByRecursion (IsSoundSpot s nodes) spots
-  are : coming ≡ map (λ p. p.page) spots
-  whole : found ++ objects_left nodes spots ≡ objects nodes t
-  count : opened + length (pages_left nodes spots) ≡ length (pages_at nodes t.height t.root)
+  -- a walk meets these objects, and then goes on to the pages `ps`
+  abbrev Meets : List LeafEntry → List ℕ → List ℕ → Type 0
+  Meets here ps os = (after : List ℕ) × Tours nodes ps after [] × (objects_on nodes os ≡ here ++ objects_on nodes after)
 
--- a walk has opened `opened` pages and found the objects `found`; the pages `coming` are still to be opened
-pub record IsCollecting (old now : Shelf) (t : Live) (found : List LeafEntry) (opened : ℕ) (coming : List ℕ) : Type 0 where
-  pub same : HoldsSame old now
-  front : IsTrue old.is_known → (s : Space) → IsSoundTree s (nodes_of old.read) t → AreFront s (nodes_of old.read) t found opened coming
+  entries_met : (h : ℕ) (above : Option (List ℕ)) → ((e : InnerEntry) → IsBelow h above e → (ps os : List ℕ) → Tours nodes (e.child ∷ ps) os [] → Meets (objects_at nodes h e.child) ps os) →
+      (es : List InnerEntry) → AllByRecursion (IsBelow h above) es → (ps os : List ℕ) → Tours nodes (map (λ e. e.child) es ++ ps) os [] → Meets (flat_map (λ e. objects_at nodes h e.child) es) ps os
+  entries_met h above deep [] all ps os walk = (os, walk, refl)
+  entries_met h above deep (e ∷ es) all ps os walk =
+      let first = deep e all.0 (map (λ e. e.child) es ++ ps) os walk in
+      let rest = entries_met h above deep es all.1 ps first.0 first.1 in (
+        rest.0,
+        rest.1,
+        first.2 ∙ ap (λ (l : List LeafEntry). objects_at nodes h e.child ++ l) rest.2
+            ∙ sym (append_assoc (objects_at nodes h e.child) (flat_map (λ e. objects_at nodes h e.child) es) (objects_on nodes rest.0)),
+      )
 
-abbrev children : Option Node → List ℕ
-children o = map (λ e. e.child) (inner_entries o)
-
--- ---- where only the tree's nodes are to come
-
-module _ (s : Space) (nodes : Nodes) (t : Live) where
-  front_begins : IsSoundTree s nodes t → AreFront s nodes t [] 0 (t.root ∷ [])
-  front_begins sound = record {
-    spots = record { page = t.root; height = t.height; least = root_least t.height; above = None } ∷ [];
-    sound = (sound.parts, tt);
-    are = refl;
-    whole = append-nil (objects nodes t);
-    count = (let l = ap length (append-nil (pages_at nodes t.height t.root)) in omega (arith, l));
-  }
-
-  -- the subtrees of a node's entries
-  abbrev spot_of : ℕ → InnerEntry → Spot
-  spot_of h e = record { page = e.child; height = h; least = least_for s.dimension; above = Some e.point }
-
-  abbrev spots_of : ℕ → List InnerEntry → List Spot
-  spots_of h es = map (spot_of h) es
-
-  spots_sound : (h : ℕ) (above : Option (List ℕ)) (es : List InnerEntry) →
-      AllByRecursion (λ e. IsSoundEntry s above (objects_at nodes h e.child) e × IsSoundAt s nodes h (least_for s.dimension) (Some e.point) e.child) es →
-      AllByRecursion (IsSoundSpot s nodes) (spots_of h es)
-  spots_sound h above [] all = tt
-  spots_sound h above (e ∷ es) all = (all.0.1, spots_sound h above es all.1)
-
-  spots_named : (h : ℕ) (es : List InnerEntry) (ps : List Spot) → map (λ e. e.child) es ++ map (λ p. p.page) ps ≡ map (λ p. p.page) (spots_of h es ++ ps)
-  spots_named h [] ps = refl
-  spots_named h (e ∷ es) ps = ap (λ (r : List ℕ). e.child ∷ r) (spots_named h es ps)
-
-  -- one spot of the front is opened
-  opened_spot : (found : List LeafEntry) (opened page : ℕ) (node : Node) (h least : ℕ) (above : Option (List ℕ)) (ps : List Spot) → IsSoundAt s nodes h least above page → AllByRecursion (IsSoundSpot s nodes) ps →
-      nodes page ≡ Some node → found ++ (objects_at nodes h page ++ objects_left nodes ps) ≡ objects nodes t →
-      opened + length (pages_at nodes h page ++ pages_left nodes ps) ≡ length (pages_at nodes t.height t.root) →
-      AreFront s nodes t (found ++ leaf_entries (Some node)) (opened + 1) (children (Some node) ++ map (λ p. p.page) ps)
-  opened_spot found opened page node zero least above ps sound sounds is whole count =
-      let leaf : node ≡ Leaf sound.0 = same_node (nodes page) node (Leaf sound.0) is sound.1 in
-      record {
-        spots = ps;
-        sound = sounds;
-        are = ap (λ (m : Node). children (Some m) ++ map (λ p. p.page) ps) leaf;
-        whole = append_assoc found (leaf_entries (Some node)) (objects_left nodes ps) ∙ ap (λ (o : Option Node). found ++ (leaf_entries o ++ objects_left nodes ps)) (sym is) ∙ whole;
-        count = omega (arith, count);
-      }
-  opened_spot found opened page node (suc h) least above ps sound sounds is whole count =
+  subtree_met : (h least : ℕ) (above : Option (List ℕ)) (page : ℕ) → IsSoundAt s nodes h least above page → (ps os : List ℕ) → Tours nodes (page ∷ ps) os [] → Meets (objects_at nodes h page) ps os
+  subtree_met h least above page sound ps [] walk = absurd (let e : ◌≡◌ {A = List ℕ} [] (page ∷ ps) = walk in cc)
+  subtree_met zero least above page sound ps (o ∷ os) walk =
+      let node = same_some nodes page walk.0 (Leaf sound.0) walk.1 sound.1 in (
+        os,
+        subst (λ (m : Node). Tours nodes (children m ++ ps) os []) node walk.3,
+        ap (λ (p : ℕ). leaf_entries (nodes p) ++ objects_on nodes os) walk.2,
+      )
+  subtree_met (suc h) least above page sound ps (o ∷ os) walk =
       let es : List InnerEntry = sound.0 in
-      let inner : node ≡ Inner (suc h) es = same_node (nodes page) node (Inner (suc h) es) is sound.1 in
-      let objects_joined : objects_left nodes (spots_of h es ++ ps) ≡ flat_map (λ e. objects_at nodes h e.child) es ++ objects_left nodes ps =
-      flat_map-append (λ p. objects_at nodes p.height p.page) (spots_of h es) ps
-      ∙ ap (λ (r : List LeafEntry). r ++ objects_left nodes ps) (flat_map-map (λ p. objects_at nodes p.height p.page) (spot_of h) es) in
-      let pages_joined : pages_left nodes (spots_of h es ++ ps) ≡ flat_map (λ e. pages_at nodes h e.child) es ++ pages_left nodes ps =
-      flat_map-append (λ p. pages_at nodes p.height p.page) (spots_of h es) ps
-      ∙ ap (λ (r : List ℕ). r ++ pages_left nodes ps) (flat_map-map (λ p. pages_at nodes p.height p.page) (spot_of h) es) in
-      let same : inner_entries (nodes page) ≡ es = ap inner_entries sound.1 in
-      record {
-        spots = spots_of h es ++ ps;
-        sound = all_append (IsSoundSpot s nodes) (spots_of h es) ps (spots_sound h above es sound.3) sounds;
-        are = ap (λ (m : Node). children (Some m) ++ map (λ p. p.page) ps) inner ∙ spots_named h es ps;
-        whole = ap (λ (m : Node). (found ++ leaf_entries (Some m)) ++ objects_left nodes (spots_of h es ++ ps)) inner
-            ∙ ap (λ (r : List LeafEntry). r ++ objects_left nodes (spots_of h es ++ ps)) (append-nil found)
-            ∙ ap (λ (r : List LeafEntry). found ++ r) objects_joined
-            ∙ ap (λ (r : List InnerEntry). found ++ (flat_map (λ e. objects_at nodes h e.child) r ++ objects_left nodes ps)) (sym same) ∙ whole;
-        count =
-            (let j = ap length pages_joined in
-            let k = ap (λ (r : List InnerEntry). length (flat_map (λ e. pages_at nodes h e.child) r ++ pages_left nodes ps)) same in
-            omega (arith, count, j, k));
-      }
+      let node = same_some nodes page walk.0 (Inner (suc h) es) walk.1 sound.1 in
+      let none : leaf_entries (nodes page) ≡ [] = ap leaf_entries sound.1 in
+      let rest = entries_met h above (λ e both. subtree_met h (least_for s.dimension) (Some e.point) e.child both.1) es sound.3 ps os
+      (subst (λ (m : Node). Tours nodes (children m ++ ps) os []) node walk.3) in (
+        rest.0,
+        rest.1,
+        ap (λ (p : ℕ). leaf_entries (nodes p) ++ objects_on nodes os) walk.2
+            ∙ ap (λ (l : List LeafEntry). l ++ objects_on nodes os) none
+            ∙ rest.2
+            ∙ ap (λ (n : Option Node). flat_map (λ e. objects_at nodes h e.child) (inner_entries n) ++ objects_on nodes rest.0) (sym sound.1),
+      )
 
-  front_goes_on : (found : List LeafEntry) (opened page : ℕ) (rest : List ℕ) (node : Node) → nodes page ≡ Some node → AreFront s nodes t found opened (page ∷ rest) →
-      AreFront s nodes t (found ++ leaf_entries (Some node)) (opened + 1) (children (Some node) ++ rest)
-  front_goes_on found opened page rest node is front = from front.spots front.sound front.are front.whole front.count
+  tree_met : (live : Live) (pages : List ℕ) → IsSoundTree s nodes live → Tours nodes (live.root ∷ []) pages [] → objects_on nodes pages ≡ objects nodes live
+  tree_met live pages sound walk = done (subtree_met live.height (root_least live.height) _ live.root sound.parts [] pages walk)
     where
-      from : (spots : List Spot) → AllByRecursion (IsSoundSpot s nodes) spots → page ∷ rest ≡ map (λ p. p.page) spots → found ++ objects_left nodes spots ≡ objects nodes t →
-          opened + length (pages_left nodes spots) ≡ length (pages_at nodes t.height t.root) → AreFront s nodes t (found ++ leaf_entries (Some node)) (opened + 1) (children (Some node) ++ rest)
-      from [] sounds are whole count = absurd (cc)
-      from (p ∷ ps) sounds are whole count =
-          let first : page ≡ p.page = cc in
-          let others : rest ≡ map (λ p. p.page) ps = cc in
-          subst (λ (r : List ℕ). AreFront s nodes t (found ++ leaf_entries (Some node)) (opened + 1) (children (Some node) ++ r)) (sym others)
-          (opened_spot found opened p.page node p.height p.least p.above ps sounds.0 sounds.1 (subst (λ (q : ℕ). nodes q ≡ Some node) first is) whole count)
-
-  -- a page that is still to come holds a node, and fewer were opened than there are pages
-  front_inside : (found : List LeafEntry) (opened page : ℕ) (rest : List ℕ) → IsSoundTree s nodes t → AreFront s nodes t found opened (page ∷ rest) → (opened < t.pages) × ((node : Node) × (nodes page ≡ Some node))
-  front_inside found opened page rest sound front = from front.spots front.sound front.are front.count
-    where
-      node_of : (h least : ℕ) (above : Option (List ℕ)) (q : ℕ) → IsSoundAt s nodes h least above q → (node : Node) × (nodes q ≡ Some node)
-      node_of zero least above q at = (Leaf at.0, at.1)
-      node_of (suc h) least above q at = (Inner (suc h) at.0, at.1)
-
-      some_page : (h q : ℕ) → 1 ≤ length (pages_at nodes h q)
-      some_page zero q = omega arith
-      some_page (suc h) q = omega arith
-
-      from : (spots : List Spot) → AllByRecursion (IsSoundSpot s nodes) spots → page ∷ rest ≡ map (λ p. p.page) spots → opened + length (pages_left nodes spots) ≡ length (pages_at nodes t.height t.root) →
-          (opened < t.pages) × ((node : Node) × (nodes page ≡ Some node))
-      from [] sounds are count = absurd (cc)
-      from (p ∷ ps) sounds are count =
-          let first : page ≡ p.page = cc in
-          let a = some_page p.height p.page in
-          let b = length-append (pages_at nodes p.height p.page) (pages_left nodes ps) in
-          let all = few t.pages (pages_at nodes t.height t.root) (all_weaker (IsNodePage t) (λ p. p < t.pages) (pages_at nodes t.height t.root) (λ p k. k.1) sound.within) sound.once in
-          (omega (arith, a, b, all, count), subst (λ (q : ℕ). (node : Node) × (nodes q ≡ Some node)) (sym first) (node_of p.height p.least p.above p.page sounds.0))
-
-  front_ends : (found : List LeafEntry) (opened : ℕ) → AreFront s nodes t found opened [] → found ≡ objects nodes t
-  front_ends found opened front = from front.spots front.are front.whole
-    where
-      from : (spots : List Spot) → ◌≡◌ {A = List ℕ} [] (map (λ p. p.page) spots) → found ++ objects_left nodes spots ≡ objects nodes t → found ≡ objects nodes t
-      from [] are whole = sym (append-nil found) ∙ whole
-      from (p ∷ ps) are whole = absurd (cc)
+      done : Meets (objects nodes live) [] pages → objects_on nodes pages ≡ objects nodes live
+      done ([], walk, met) = met ∙ append-nil (objects nodes live)
+      done (o ∷ os, walk, met) = absurd walk
 
 -- ---- one step of the walk
 
-module _ (old : Shelf) (t : Live) where
-  pub begins : IsCollecting old old t [] 0 (t.root ∷ [])
-  begins = record {
-    same = record { dim = refl; pages = refl; is_known = refl; read = refl; faults = (omega arith) };
-    front = λ is_known s sound. front_begins s (nodes_of old.read) t sound;
+module _ (old now : Shelf) (live : Live) where
+  pub begins : (course : Course) → course ≡ record { coming = live.root ∷ []; opened = 0; most = live.pages } → IsCollecting old old live course []
+  begins course is = record { opened = []; tour = tour_begins old live course is; are = λ is_known. refl }
+
+  pub goes_on : (new : Shelf) (course next : Course) (found : List LeafEntry) (page : ℕ) (node : Node) → IsCollecting old now live course found → OpensNext now new course next page node → HoldsSame now new →
+      new.reads ≤ now.reads + 1 → IsCollecting old new live next (found ++ leaf_entries (Some node))
+  goes_on new course next found page node before opens same reads = record {
+    opened = before.opened ++ page ∷ [];
+    tour = tour_goes_on old live now new course before.opened before.tour next page node opens same reads;
+    are = λ is_known.
+        let nodes = nodes_of old.read in
+        ap (λ (l : List LeafEntry). l ++ leaf_entries (Some node)) (before.are is_known)
+        ∙ ap (λ o. objects_on nodes before.opened ++ leaf_entries o) (sym (told_then old now page node before.tour.same opens.is is_known))
+        ∙ sym (flat_map-append (λ p. leaf_entries (nodes p)) before.opened (page ∷ []) ∙ ap (λ (l : List LeafEntry). objects_on nodes before.opened ++ l) (append-nil (leaf_entries (nodes page))));
   }
 
-  module _ (now : Shelf) (found : List LeafEntry) (opened page : ℕ) (rest : List ℕ) (before : IsCollecting old now t found opened (page ∷ rest)) where
-    pub goes_on : (new : Shelf) (found' : List LeafEntry) (coming : List ℕ) → HoldsSame now new → IsOpened now page found found' rest coming → IsCollecting old new t found' (opened + 1) coming
-    goes_on new found' coming same was = record {
-      same = holds_both old now new before.same same;
-      front = λ is_known s sound.
-          subst (λ (c : List ℕ). AreFront s (nodes_of old.read) t found' (opened + 1) c) (sym was.coming_are)
-          (subst (λ (f : List LeafEntry). AreFront s (nodes_of old.read) t f (opened + 1) (children (Some was.node) ++ rest)) (sym was.found_are)
-          (front_goes_on s (nodes_of old.read) t found opened page rest was.node (told_then old now page was.node before.same was.is is_known) (before.front is_known s sound)));
-    }
-
-    pub disk_rose : (new : Shelf) (fault : PageFault) → HasPageCause now new page fault → fault ≡ Disk → Rose old.faults new.faults
-    disk_rose new fault cause is = let c : Rose now.faults new.faults = subst (HasPageCause now new page) is cause in let l = before.same.faults in omega (arith, c, l)
-
-    inside : IsTrue old.is_known → (s : Space) → IsSoundTree s (nodes_of old.read) t → (opened < t.pages) × ((node : Node) × (nodes_of old.read page ≡ Some node))
-    inside is_known s sound = front_inside s (nodes_of old.read) t found opened page rest sound (before.front is_known s sound)
-
-    pub has_room : opened ≡ t.pages → IsTrue old.is_known → (s : Space) → IsSoundTree s (nodes_of old.read) t → ⊥
-    has_room all is_known s sound = let r = (inside is_known s sound).0 in omega (arith, r, all)
-
-    no_node : (fault : PageFault) → now.read page ≡ Err fault → IsTrue old.is_known → (s : Space) → IsSoundTree s (nodes_of old.read) t → ⊥
-    no_node fault is is_known s sound =
-        let there = (inside is_known s sound).1 in
-        let some : nodes_of old.read page ≡ Some there.0 = there.1 in
-        let none : nodes_of old.read page ≡ None = ap (λ (r : Read). node_or_none (r page)) (sym before.same.read) ∙ ap node_or_none is in
-        cc
-
-    told : IsTrue old.is_known → IsTrue now.is_known
-    told is_known = rw before.same.is_known is_known
-
-    -- on a sound tree only a passing fault is refused
-    pub passes : (new : Shelf) (fault : PageFault) → HasPageCause now new page fault → IsTrue old.is_known → (s : Space) → IsSoundTree s (nodes_of old.read) t → IsPassing fault
-    passes new Disk cause is_known s sound = tt
-    passes new Memory cause is_known s sound = tt
-    passes new (Bad p fault) cause is_known s sound = absurd (no_node (Bad page fault) (cause.3 (told is_known)) is_known s sound)
-    passes new (Outside p) cause is_known s sound = absurd (no_node (Outside page) (cause.2 (told is_known)) is_known s sound)
-    passes new (Repeats p) cause is_known s sound = absurd cause
-    passes new (Level p) cause is_known s sound = absurd cause
-
-  pub ends : (now : Shelf) (found : List LeafEntry) (opened : ℕ) → IsCollecting old now t found opened [] → IsTrue old.is_known → (s : Space) → IsSoundTree s (nodes_of old.read) t → found ≡ objects (nodes_of old.read) t
-  ends now found opened done is_known s sound = front_ends s (nodes_of old.read) t found opened (done.front is_known s sound)
+  pub ends : (course : Course) (found : List LeafEntry) → IsCollecting old now live course found → course.coming ≡ [] → IsTrue old.is_known → (s : Space) → IsSoundTree s (nodes_of old.read) live →
+      found ≡ objects (nodes_of old.read) live
+  ends course found done none is_known s sound =
+      done.are is_known ∙ tree_met s (nodes_of old.read) live done.opened sound (subst (λ (c : List ℕ). Tours (nodes_of old.read) (live.root ∷ []) done.opened c) none (done.tour.walk is_known))

@@ -2,6 +2,5 @@ pub mod Generator
 pub mod Filling
 pub mod Asking
 pub mod Jobs
-pub mod Collecting
 pub mod Ordering
 pub mod Migrating

@@ -1,15 +1,12 @@
-use Rattle.std.proofs.Common.{◌≤◌, ◌-◌, reverse}
-use Rattle.page_store.specs.Shelf.{HoldsSame}
+use Rattle.std.proofs.Common.{◌-◌}
 use Rattle.job_make.proofs.Walked.{IsCollecting}
 use Rattle.job_make.proofs.collecting.collect.Given as goal
 
-abbrev pub invariant-loop-page : goal.invariant-loop-page
-invariant-loop-page g l = record {
+abbrev pub invariant-loop-tour : goal.invariant-loop-tour
+invariant-loop-tour g l = record {
   keeps : g.P.Pages.keeps l.fn.pages l.pages;
-  same : HoldsSame (g.P.Pages.shelf l.fn.pages) (g.P.Pages.shelf l.pages);
-  low : l.opened ≤ l.live.pages;
-  collecting : IsCollecting (g.P.Pages.shelf l.fn.pages) (g.P.Pages.shelf l.pages) l.live l.found.items l.opened (reverse l.coming.items);
+  collecting : IsCollecting (g.P.Pages.shelf l.fn.pages) (g.P.Pages.shelf l.pages) l.live l.tour l.found.items;
 }
 
-abbrev pub decreases-loop-page : goal.decreases-loop-page
-decreases-loop-page g l = l.live.pages - l.opened
+abbrev pub decreases-loop-tour : goal.decreases-loop-tour
+decreases-loop-tour g l = l.tour.most - l.tour.opened
