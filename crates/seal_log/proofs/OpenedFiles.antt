@@ -34,7 +34,7 @@ roomy limit size more live le valid = record {
 pub live_opens : (file : List ℕ) (pages : ℕ) (head : Head) (live : Live) → 4096 * pages ≤ length file → 3 ≤ pages → SpellsHead (page_of file 0) head
     → IsLiveOf (page_of file 1) (page_of file 2) head.limit pages live → OpensTo file head live × (live.pages ≡ pages)
 unfolding is_open generation_of
-live_opens file pages head live size some spells (inl first) = (
+live_opens file pages head live size some spells (inl first, all) = (
   record {
     long = omega (arith, size);
     spells_head = spells;
@@ -43,9 +43,9 @@ live_opens file pages head live size some spells (inl first) = (
     spells_slot = subst (λ (s : ℕ). SpellsSlot (page_of file (1 + s)) (slot_of_live live)) (sym first.side_is) first.spells;
     valid = roomy head.limit (4096 * pages) (length file) live size first.valid;
   },
-  first.all,
+  all,
 )
-live_opens file pages head live size some spells (inr second) = (
+live_opens file pages head live size some spells (inr second, all) = (
   record {
     long = omega (arith, size);
     spells_head = spells;
@@ -54,7 +54,7 @@ live_opens file pages head live size some spells (inr second) = (
     spells_slot = subst (λ (s : ℕ). SpellsSlot (page_of file (1 + s)) (slot_of_live live)) (sym second.side_is) second.spells;
     valid = roomy head.limit (4096 * pages) (length file) live size second.valid;
   },
-  second.all,
+  all,
 )
 
 -- a valid slot that counts `pages` pages is valid in a file of `pages` pages
@@ -76,20 +76,24 @@ unfolding is_open generation_of
 opens_live file pages head live opens all = by_side live.side refl opens.side
   where
     by_side : (s : ℕ) → live.side ≡ s → live.side ≤ 1 → IsLiveOf (page_of file 1) (page_of file 2) head.limit pages live
-    by_side zero is few = inl (record {
-      side_is = is;
-      newest = subst (λ (s : ℕ). IsTrue (slice_index (page_of file (1 + (1 - s))) 0 == 165) → generation_of file (1 - s) < live.generation) is opens.newest;
-      spells = subst (λ (s : ℕ). SpellsSlot (page_of file (1 + s)) (slot_of_live live)) is opens.spells_slot;
-      valid = enough head.limit (length file) pages live all opens.valid;
-      all = all;
-    })
-    by_side (suc zero) is few = inr (record {
-      side_is = is;
-      newest = subst (λ (s : ℕ). IsTrue (slice_index (page_of file (1 + (1 - s))) 0 == 165) → generation_of file (1 - s) < live.generation) is opens.newest;
-      spells = subst (λ (s : ℕ). SpellsSlot (page_of file (1 + s)) (slot_of_live live)) is opens.spells_slot;
-      valid = enough head.limit (length file) pages live all opens.valid;
-      all = all;
-    })
+    by_side zero is few = (
+      inl (record {
+        side_is = is;
+        newest = subst (λ (s : ℕ). IsTrue (slice_index (page_of file (1 + (1 - s))) 0 == 165) → generation_of file (1 - s) < live.generation) is opens.newest;
+        spells = subst (λ (s : ℕ). SpellsSlot (page_of file (1 + s)) (slot_of_live live)) is opens.spells_slot;
+        valid = enough head.limit (length file) pages live all opens.valid;
+      }),
+      all,
+    )
+    by_side (suc zero) is few = (
+      inr (record {
+        side_is = is;
+        newest = subst (λ (s : ℕ). IsTrue (slice_index (page_of file (1 + (1 - s))) 0 == 165) → generation_of file (1 - s) < live.generation) is opens.newest;
+        spells = subst (λ (s : ℕ). SpellsSlot (page_of file (1 + s)) (slot_of_live live)) is opens.spells_slot;
+        valid = enough head.limit (length file) pages live all opens.valid;
+      }),
+      all,
+    )
     by_side (suc (suc s)) is few = absurd (omega arith)
 
 -- ---- faults
@@ -192,8 +196,7 @@ unopened file pages head zeroth first second size some is0 is1 is2 spells versio
     (λ live slots. none live (subst (λ (b : List ℕ). IsLiveOf first b head.limit pages live) (sym is2) (subst (λ (a : List ℕ). IsLiveOf a (page_of file 2) head.limit pages live) (sym is1) slots)))
 
 pub live-all : {limit pages : ℕ} {first second : List ℕ} {live : Live} → IsLiveOf first second limit pages live → live.pages ≡ pages
-live-all (inl one) = one.all
-live-all (inr one) = one.all
+live-all is = is.1
 
 five : (a b c d e : Bool) → (a && b && c && d && e) ≡ true → (c ≡ true) × (d ≡ true)
 five true true true true e is = (refl, refl)

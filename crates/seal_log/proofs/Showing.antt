@@ -187,7 +187,7 @@ pub verdict_told : (s : Space) (c : CarriedLog) (asked dim n again : ℕ) (file 
     → (fault_by verdict ≡ faults.Memory) ⊎ (judged_fault s c ≡ Some (fault_by verdict))
 verdict_told s c asked dim n again file verdicts.Memory none cause = inl refl
 verdict_told s c asked dim n again file (verdicts.Page pages.Disk) none cause = absurd (let never : ⊥ = omega (arith, cause) in never)
-verdict_told s c asked dim n again file (verdicts.Page (pages.Bad page fault)) none cause = inr (verdict-next s c (verdicts.Page (pages.Bad page fault)) none (cause.2 refl))
+verdict_told s c asked dim n again file (verdicts.Page (pages.Bad page fault)) none cause = inr (verdict-next s c (verdicts.Page (pages.Bad page fault)) none (cause.1 refl))
 verdict_told s c asked dim n again file (verdicts.Page (pages.Outside page)) none cause = inr (verdict-next s c (verdicts.Page (pages.Outside page)) none (cause.1 refl))
 verdict_told s c asked dim n again file (verdicts.Page pages.Memory) none cause = absurd cause
 verdict_told s c asked dim n again file (verdicts.Page (pages.Repeats page)) none cause = absurd cause

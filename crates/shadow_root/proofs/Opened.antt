@@ -1,6 +1,6 @@
 -- Two slots lead to the live one, or to the first fault of a file that has them.
-use Rattle.std.proofs.Common.{◌≡◌, ℕ, ◌<◌, ◌==◌, ◌&&◌, ◌||◌, not, nat_lt, Bool, true, false, List, slice_index, Option, Some, Result, Ok, Err, IfOk, IfErr, if◌then◌else◌, refl, sym, ◌∙◌, ap, subst, arith}
-use Rattle.std.proofs.lemmas.Bool.{ltb-true}
+use Rattle.std.proofs.Common.{◌≡◌, ℕ, ◌<◌, ◌==◌, ◌&&◌, ◌||◌, not, nat_lt, Bool, true, false, List, slice_index, Option, Some, Result, Ok, Err, IfOk, IfErr, if◌then◌else◌, refl, sym, ◌∙◌, ap, subst, arith, inl, inr}
+use Rattle.std.proofs.lemmas.Bool.{lt-ltb, ltb-true}
 use Rattle.std.proofs.lemmas.Bool.Decides.{nat_tests}
 use Rattle.tree_shape.specs.declared.live.Live.{Live}
 use Rattle.node_page.specs.Bytes.{number_at}
@@ -9,7 +9,7 @@ use Rattle.node_page.proofs.Published.{slot_is, rest_by_clear}
 use Rattle.node_page.specs.Opening.{slot_page, is_open, generation_of, slot_of_live, IsValidLive, live_side, live_at, live_of, is_clear, is_valid_live, Unopened, slot_fault}
 use Rattle.node_page.specs.Opening.Unopened.{Unfinished as NoGate, TwoRoots as TwoGates, BadSlot}
 use Rattle.node_page.specs.declared.slot.Slot.{Slot}
-use Rattle.shadow_root.specs.Opening.{told_as, side_of, number_of, HasSlots, LeadsTo}
+use Rattle.shadow_root.specs.Opening.{told_as, side_of, number_of, HasSlots, IsLiveSlot, LeadsTo}
 use Rattle.shadow_root.specs.declared.opening.Side.{Side}
 use Rattle.shadow_root.specs.declared.opening.Side.TheVariants.{First, Second}
 use Rattle.shadow_root.specs.declared.faults.OpenFault.{OpenFault}
@@ -94,6 +94,9 @@ open_on page = slice_index page 0 == 165
 abbrev pub generation_on : List ℕ → ℕ
 generation_on page = number_at 8 8 page
 
+slot_same : (side : ℕ) (slot : Slot) → slot.gate ≡ true → slot_of_live (live_at side slot) ≡ slot
+slot_same side slot gate = ap (λ (g : Bool). record { gate = g; generation = slot.generation; root = slot.root; height = slot.height; count = slot.count; pages = slot.pages }) (sym gate)
+
 module _ (first second : List ℕ) (limit size : ℕ) (file : List ℕ) (has : HasSlots first second limit size file) where
   open_first : is_open file 0 ≡ open_on first
   unfolding is_open
@@ -138,9 +141,6 @@ module _ (first second : List ℕ) (limit size : ℕ) (file : List ℕ) (has : H
       (third_of (open_on first) (open_on second) (generation_on first) (generation_on second) side _ is
       ∙ rw (side_live side is, page_is side, has.limit_is, has.size_is, refused) refl)
 
-  slot_same : (side : ℕ) (slot : Slot) → slot.gate ≡ true → slot_of_live (live_at side slot) ≡ slot
-  slot_same side slot gate = ap (λ (g : Bool). record { gate = g; generation = slot.generation; root = slot.root; height = slot.height; count = slot.count; pages = slot.pages }) (sym gate)
-
   spelled : (side : Side) (slot : Slot) → SpellsSlot (page_by side) slot → slot.gate ≡ true → SpellsSlot (slot_page file (number_of side)) (slot_of_live (live_at (number_of side) slot))
   spelled side slot spells gate =
       subst (λ (s : Slot). SpellsSlot (slot_page file (number_of side)) s) (sym (slot_same (number_of side) slot gate)) (subst (λ (p : List ℕ). SpellsSlot p slot) (sym (page_is side)) spells)
@@ -167,6 +167,117 @@ module _ (first second : List ℕ) (limit size : ℕ) (file : List ℕ) (has : H
         spells_slot = spelled Second slot spells (sym spells.gate ∙ wins.0);
         valid = valid;
       }
+
+-- ---- the live slot, by its two pages
+
+first_wins : (o0 o1 : Bool) (g0 g1 : ℕ) → o0 ≡ true → (o1 ≡ true → g1 < g0) → side_of o0 o1 g0 g1 ≡ Ok First
+first_wins false o1 g0 g1 opened newest = absurd cc
+first_wins true false g0 g1 opened newest = refl
+first_wins true true g0 g1 opened newest =
+    let less = newest refl in
+    let apart : (g0 == g1) ≡ false = grind (arith, nat_tests, less) in
+    let less_is : nat_lt g1 g0 ≡ true = lt-ltb g1 g0 less in
+    rw (apart, less_is) refl
+
+second_wins : (o0 o1 : Bool) (g0 g1 : ℕ) → o1 ≡ true → (o0 ≡ true → g0 < g1) → side_of o0 o1 g0 g1 ≡ Ok Second
+second_wins o0 false g0 g1 opened newest = absurd cc
+second_wins false true g0 g1 opened newest = refl
+second_wins true true g0 g1 opened newest =
+    let less = newest refl in
+    let apart : (g0 == g1) ≡ false = grind (arith, nat_tests, less) in
+    let not_less : nat_lt g1 g0 ≡ false = grind (arith, nat_tests, less) in
+    rw (apart, not_less) refl
+
+-- the page of a side's slot
+abbrev pub page_on : List ℕ → List ℕ → Side → List ℕ
+page_on first second First = first
+page_on first second Second = second
+
+-- the side that wins
+abbrev WinsOn : List ℕ → List ℕ → Side → Type 0
+WinsOn first second side = side_of (open_on first) (open_on second) (generation_on first) (generation_on second) ≡ Ok side
+
+-- the page of a live slot wins, and spells it
+pub record IsFoundOn (first second : List ℕ) (limit size : ℕ) (live : Live) (side : Side) : Type 0 where
+  pub wins : WinsOn first second side
+  pub spells : SpellsSlot (page_on first second side) (slot_of_live live)
+  pub valid : IsValidLive limit size (live_at (number_of side) (slot_of_live live))
+  pub is : live_at (number_of side) (slot_of_live live) ≡ live
+
+at_side : (side : ℕ) (live : Live) → live.side ≡ side → live_at side (slot_of_live live) ≡ live
+at_side side live is = ap (λ (n : ℕ). live_at n (slot_of_live live)) (sym is)
+
+pub found_on : (first second : List ℕ) (limit size : ℕ) (live : Live) → IsLiveSlot first second limit size live → (side : Side) × IsFoundOn first second limit size live side
+found_on first second limit size live (inl one) =
+    let same = at_side 0 live one.side_is in (
+      First,
+      record {
+        wins = first_wins (open_on first) (open_on second) (generation_on first) (generation_on second) one.spells.gate
+            (λ opened. let less = one.newest opened in omega (arith, less, one.spells.generation));
+        spells = one.spells;
+        valid = subst (IsValidLive limit size) (sym same) one.valid;
+        is = same;
+      },
+    )
+found_on first second limit size live (inr two) =
+    let same = at_side 1 live two.side_is in (
+      Second,
+      record {
+        wins = second_wins (open_on first) (open_on second) (generation_on first) (generation_on second) two.spells.gate
+            (λ opened. let less = two.newest opened in omega (arith, less, two.spells.generation));
+        spells = two.spells;
+        valid = subst (IsValidLive limit size) (sym same) two.valid;
+        is = same;
+      },
+    )
+
+-- no live slot is found where no gate wins, and on no other side than the one that wins
+pub none_wins : (first second : List ℕ) (limit size : ℕ) (live : Live) (fault : OpenFault)
+    → side_of (open_on first) (open_on second) (generation_on first) (generation_on second) ≡ Err fault → IsLiveSlot first second limit size live → ⊥
+none_wins first second limit size live fault refused is =
+    let found = found_on first second limit size live is in
+    let e : Err fault ≡ Ok found.0 = sym refused ∙ found.1.wins in absurd cc
+
+-- a live slot on the side that wins is what its page gives
+pub only_on : (first second : List ℕ) (limit size : ℕ) (side : Side) → WinsOn first second side → (r : Result Live OpenFault)
+    → ((slot : Slot) → SpellsSlot (page_on first second side) slot → IsValidLive limit size (live_at (number_of side) slot) → r ≡ Ok (live_at (number_of side) slot))
+    → (live : Live) → IsLiveSlot first second limit size live → r ≡ Ok live
+only_on first second limit size side wins r only live is =
+    let found = found_on first second limit size live is in
+    let ok : Ok side ≡ Ok found.0 = sym wins ∙ found.1.wins in
+    let same : side ≡ found.0 = cc in
+    by_side found.0 same found.1
+  where
+    by_side : (side2 : Side) → side ≡ side2 → IsFoundOn first second limit size live side2 → r ≡ Ok live
+    by_side side2 same found =
+        let here = subst (λ (s : Side). (slot : Slot) → SpellsSlot (page_on first second s) slot → IsValidLive limit size (live_at (number_of s) slot) → r ≡ Ok (live_at (number_of s) slot)) same only in
+        here (slot_of_live live) found.spells found.valid ∙ ap (λ (l : Live). Ok l) found.is
+
+-- the slot of the side that wins is live
+live_on : (first second : List ℕ) (limit size : ℕ) (side : Side) → WinsOn first second side → (slot : Slot) → SpellsSlot (page_on first second side) slot → IsValidLive limit size (live_at (number_of side) slot)
+    → IsLiveSlot first second limit size (live_at (number_of side) slot)
+live_on first second limit size First wins slot spells valid =
+    let facts = side_facts (open_on first) (open_on second) (generation_on first) (generation_on second) First wins in
+    inl (record {
+      side_is = refl;
+      newest = λ opened. let less = facts.1 opened in omega (arith, less, spells.generation);
+      spells = subst (SpellsSlot first) (sym (slot_same 0 slot (sym spells.gate ∙ facts.0))) spells;
+      valid = valid;
+    })
+live_on first second limit size Second wins slot spells valid =
+    let facts = side_facts (open_on first) (open_on second) (generation_on first) (generation_on second) Second wins in
+    inr (record {
+      side_is = refl;
+      newest = λ opened. let less = facts.1 opened in omega (arith, less, spells.generation);
+      spells = subst (SpellsSlot second) (sym (slot_same 1 slot (sym spells.gate ∙ facts.0))) spells;
+      valid = valid;
+    })
+
+pub live_at_ok : (first second : List ℕ) (limit size : ℕ) (side : Side) → WinsOn first second side → (r : Result Live OpenFault)
+    → IfOk r (λ live. (slot : Slot) × SpellsSlot (page_on first second side) slot × (live ≡ live_at (number_of side) slot)) → IfOk r (IsValidLive limit size) → IfOk r (IsLiveSlot first second limit size)
+live_at_ok first second limit size side wins (Ok live) spells valid =
+    subst (IsLiveSlot first second limit size) (sym spells.2) (live_on first second limit size side wins spells.0 spells.1 (subst (IsValidLive limit size) spells.2 valid))
+live_at_ok first second limit size side wins (Err fault) spells valid = tt
 
 -- what the page of the live slot gave
 module _ (first second : List ℕ) (limit size : ℕ) (side : Side) (wins : side_of (open_on first) (open_on second) (generation_on first) (generation_on second) ≡ Ok side) where

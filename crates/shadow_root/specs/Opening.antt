@@ -1,8 +1,9 @@
 -- Why a file does not open, and how its two slots lead to the live one.
-use Rattle.std.specs.Prelude.{◌≡◌, ℕ, ◌-◌, ◌<◌, ◌≤◌, ◌==◌, ◌&&◌, ◌||◌, not, nat_lt, Bool, List, length, IsTrue, Option, Some, None, Result, Ok, Err, if◌then◌else◌}
+use Rattle.std.specs.Prelude.{◌≡◌, ◌⊎◌, ℕ, ◌-◌, ◌<◌, ◌≤◌, ◌==◌, ◌&&◌, ◌||◌, not, nat_lt, Bool, List, length, slice_index, IsTrue, Option, Some, None, Result, Ok, Err, if◌then◌else◌}
 use Rattle.outside_io.specs.Causes.{Rose}
 use Rattle.disk_model.specs.Disk.{DiskState}
 use Rattle.tree_shape.specs.declared.live.Live.{Live}
+use Rattle.node_page.specs.Bytes.{number_at}
 use Rattle.node_page.specs.Heads.{head_of, head_fault}
 use Rattle.node_page.specs.Slots.{SpellsSlot}
 use Rattle.node_page.specs.Opening.{page_of, slot_page, is_open, generation_of, slot_of_live, IsValidLive, Unopened, open_fault, slot_fault}
@@ -40,6 +41,18 @@ side_of o0 o1 g0 g1 =
 abbrev pub number_of : Side → ℕ
 number_of First = 0
 number_of Second = 1
+
+-- The slot on `page` is live in a file of `size` bytes whose head has the limit `limit`, where the other slot is on `other`: its gate
+-- is open, and the other's is closed or of a lesser generation.
+pub record IsLiveIn (side : ℕ) (page other : List ℕ) (limit size : ℕ) (live : Live) : Type 0 where
+  pub side_is : live.side ≡ side
+  pub newest : IsTrue (slice_index other 0 == 165) → number_at 8 8 other < live.generation
+  pub spells : SpellsSlot page (slot_of_live live)
+  pub valid : IsValidLive limit size live
+
+-- the live slot is one of the two
+abbrev pub IsLiveSlot : List ℕ → List ℕ → ℕ → ℕ → Live → Type 0
+IsLiveSlot first second limit size live = IsLiveIn 0 first second limit size live ⊎ IsLiveIn 1 second first limit size live
 
 -- the file has the slots `first` and `second`, a head with the limit `limit`, and `size` bytes
 pub record HasSlots (first second : List ℕ) (limit size : ℕ) (file : List ℕ) : Type 0 where

@@ -34,7 +34,6 @@ fn write_nodes<D: Disk>(disk: &mut D, dim: u8, staged: &Staged) -> Result<(), Fa
     ensures reads { (D.state disk.new).reads ≡ (D.state disk.old).reads }
     ensures cause { HasCause (D.state disk.old).faults (D.state disk.new).faults result }
 {
-    staged.are_apart();
     let mut page = [0; 4096];
     for i in 0..staged.len() {
         let new = staged.at(i);

@@ -10,4 +10,4 @@ mod opening;
 pub use committing::commit;
 pub use faults::{CreateFault, OpenFault};
 pub use making::create;
-pub use opening::open;
+pub use opening::{live_of, open};

@@ -1,12 +1,13 @@
 // Which of the two slots is live.
-ghost use Rattle.std.specs.Prelude.{◌≡◌, ◌+◌, ◌≤◌, ◌==◌, ◌&&◌, ℕ, List, false, length, IsTrue, OnOk, IfOk, IfErr};
+ghost use Rattle.std.specs.Prelude.{◌≡◌, ◌+◌, ◌≤◌, ◌==◌, ◌&&◌, ℕ, List, false, length, IsTrue, OnOk, IfOk, IfErr, Ok};
 ghost use Rattle.disk_model.specs.Disk.{IsUnchanged};
 ghost use Rattle.node_page.specs.Bytes.{number_at};
 ghost use Rattle.node_page.specs.Heads.{IsValidHead, SpellsHead};
 ghost use Rattle.node_page.specs.Slots.{SpellsSlot, slot_of};
 ghost use Rattle.node_page.specs.Opening.{page_of, IsValidLive, OpensTo, is_valid_live, is_clear, live_at, slot_fault};
 ghost use Rattle.node_page.specs.declared.slot.Slot.{Slot};
-ghost use Rattle.shadow_root.specs.Opening.{HasOpenCause, told_as, side_of, number_of, HasSlots, LeadsTo, IsSlotFault, IsOf, HasSlotCause, HasHeadCause};
+ghost use Rattle.tree_shape.specs.declared.live.Live.{Live as TheLive};
+ghost use Rattle.shadow_root.specs.Opening.{HasOpenCause, told_as, side_of, number_of, HasSlots, IsLiveSlot, LeadsTo, IsSlotFault, IsOf, HasSlotCause, HasHeadCause};
 
 use crate::OpenFault;
 use disk_model::Disk;
@@ -43,6 +44,7 @@ fn live_side(first: &Gate, second: &Gate) -> Result<Side, OpenFault>
 fn live_in(page: &[u8; 4096], side: u8, limit: u32, size: u64) -> Result<Live, OpenFault>
     ensures spelled { IfOk result (λ live. (slot : Slot) × SpellsSlot page.now slot × (live ≡ live_at side slot)) }
     ensures valid { IfOk result (IsValidLive limit size) }
+    ensures only { (slot : Slot) → SpellsSlot page.now slot → IsValidLive limit size (live_at side slot) → result ≡ Ok (live_at side slot) }
     ensures fault { IfErr result (λ fault. (fault ≡ OpenFault.Slot)
         × ((is_clear page.now && is_valid_live limit size (live_at side (slot_of page.now))) ≡ false)) }
 {
@@ -57,13 +59,16 @@ fn live_in(page: &[u8; 4096], side: u8, limit: u32, size: u64) -> Result<Live, O
     Ok(live)
 }
 
-// Returns the live tree of a file with the slots `first` and `second`.
-fn live_of(
+/// Returns the live tree of a file of `size` bytes with the slots `first` and `second`, whose head has the limit `limit`. The refusals
+/// are `Unfinished`, `TwoRoots` and `Slot`, the first one in this order.
+pub fn live_of(
     first: &[u8; 4096],
     second: &[u8; 4096],
     limit: u32,
     size: u64,
 ) -> Result<Live, OpenFault>
+    ensures live { IfOk result (IsLiveSlot first.now second.now limit size) }
+    ensures only { (live : TheLive) → IsLiveSlot first.now second.now limit size live → result ≡ Ok live }
     ensures valid { IfOk result (IsValidLive limit size) }
     ensures side { IfOk result (λ live. live.side ≤ 1) }
     ensures ok { IfOk result (λ live. (file : List ℕ) → HasSlots first.now second.now limit size file → LeadsTo limit size live file) }

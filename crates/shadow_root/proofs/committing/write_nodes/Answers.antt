@@ -23,7 +23,7 @@ loop-i-preserved g c =
           (rewritten_torn staged mid.bytes new.bytes c.loop-i.i here (4096 * c.from.result) (length c.encode_node.new.page) stands place size (c.write_at.ensures.others (told is_known)));
       in_place = λ is_known.
           in_place_more c.args.dim staged c.loop-i.i here (4096 * c.from.result) c.encode_node.new.page mid.bytes new.bytes place size c.encode_node.ensures stands
-          (apart_at staged c.are_apart.ensures) (written (told is_known)) (i.in_place is_known);
+          (apart_at staged c.len-i-end.ensures.apart) (written (told is_known)) (i.in_place is_known);
       long = λ is_known. long_more staged c.loop-i.i here (4096 * c.from.result) c.encode_node.new.page mid.bytes new.bytes stands place size (written (told is_known)) (i.long is_known);
       reads = c.write_at.ensures.reads ∙ i.reads;
       faults = c.in_ok-write_at.ensures.cause.done ∙ i.faults;
