@@ -1,13 +1,11 @@
 // Runs a job on the files that the words name.
-ghost use Rattle.std.specs.Prelude.{◌≡◌, IfOk};
-ghost use Rattle.job_words.specs.Files.{file_texts};
-ghost use Rattle.job_words.specs.Words.{texts_of};
 ghost use Rattle.job_words.specs.Jobs.{job_of};
-ghost use Rattle.mtree_cli.specs.Files.{EndsOnFiles, opened_names};
+ghost use Rattle.mtree_cli.specs.Files.{EndsOnFiles};
 
 use crate::program::run;
+use crate::request::Request;
 use job_files::{FAULT_MEMORY, end_with};
-use job_words::{FileNames, JobFault, files_of, no_files, read_job};
+use job_words::FileNames;
 use named_files::{Folder, Named, Opened, Refusal, open_files};
 use outside_io::{Sink, Source, Status};
 use std::alloc::Global;
@@ -21,17 +19,6 @@ pub struct Ended<'a, Reason> {
     pub refusal: Option<Refusal<&'a str, Reason>>,
     /// The name of the index whose last fault the system gave a reason for, and the reason.
     pub fault: Option<(&'a str, Reason)>,
-}
-
-// Returns the names of the files that the words' job opens.
-fn opened_names(alloc: Global, words: &[String]) -> Result<FileNames<&str>, JobFault>
-    ensures { IfOk result (λ names. file_texts names ≡ opened_names (job_of (texts_of words.now))) }
-{
-    match read_job(alloc, words) {
-        Ok(job) => Ok(files_of(job)),
-        Err(JobFault::Usage) => Ok(no_files()),
-        Err(JobFault::Memory) => Err(JobFault::Memory),
-    }
 }
 
 // Returns an index's name and the reason that the system gave for its last fault.
@@ -59,7 +46,7 @@ fn first_fault<'a, F: Folder>(
     }
 }
 
-/// Runs the job of `words` on the files that they name. `create`, `gen` and `migrate` make the index where there is none.
+/// Runs the job of `request` on the files that it names. `create`, `gen` and `migrate` make the index where there is none.
 ///
 /// Each index is locked against other processes from its opening to the end of the run. The status is 10 in these cases: a file
 /// could not be opened, another process holds an index, the log to be made begins as an index, or the file to be made is a file that
@@ -67,15 +54,15 @@ fn first_fault<'a, F: Folder>(
 pub fn run_on_files<'a, R: Threads + Sync, F: Folder, S: Source, K: Sink>(
     rt: &R,
     alloc: Global,
-    words: &'a [String],
+    request: &Request<'a>,
     folder: F,
     input: &mut S,
     out: &mut K,
 ) -> Ended<'a, F::Reason>
-    ensures { EndsOnFiles F.Index.state F.LogIn.left F.LogOut.state (F.meaning folder) (job_of (texts_of words.now)) (S.left input.old)
+    ensures { EndsOnFiles F.Index.state F.LogIn.left F.LogOut.state (F.meaning folder) (job_of request.now) (S.left input.old)
         (K.state out.old) (K.state out.new) result.status.0 result.refusal }
 {
-    let Ok(names) = opened_names(alloc, words) else {
+    let Ok(names) = request.file_names() else {
         return Ended {
             status: end_with(out, FAULT_MEMORY, 8),
             refusal: None,
@@ -95,7 +82,7 @@ pub fn run_on_files<'a, R: Threads + Sync, F: Folder, S: Source, K: Sink>(
     let status = run(
         rt,
         alloc,
-        words,
+        request,
         &mut files.index,
         &mut files.other,
         input,

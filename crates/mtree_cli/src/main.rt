@@ -9,6 +9,7 @@ mod log_tests;
 #[cfg(test)]
 mod number_tests;
 mod program;
+mod request;
 #[cfg(test)]
 mod runs;
 #[cfg(test)]
@@ -24,6 +25,7 @@ use job_words::JobFault;
 use named_files::HostFolder;
 use outside_io::{StdSink, StdSource};
 use program::USAGE;
+use request::Request;
 use std::env;
 use std::io::{self, ErrorKind};
 use std::process::ExitCode;
@@ -54,15 +56,16 @@ fn main(rt: HostRuntime) -> ExitCode {
     let mut out = Watched::new(StdSink::new(rt.stdout()));
     let status = match read_words(&rt) {
         Ok(words) => {
+            let request = Request::read(rt.alloc(), &words);
             let ended = run_on_files(
                 &rt,
                 rt.alloc(),
-                &words,
+                &request,
                 HostFolder::new(&rt),
                 &mut input,
                 &mut out,
             );
-            tell_of(&rt, &words, &ended, &out.replies);
+            tell_of(&rt, &request, &ended, &out.replies);
             ended.status
         }
         Err(JobFault::Usage) => {

@@ -2,7 +2,6 @@ ghost use Rattle.std.specs.Prelude.{◌≡◌, ◌≢◌, ◌⊎◌, ◌≤◌, 
 ghost use Rattle.std.specs.Io.KnownBytes.{IsAtEnd};
 ghost use Rattle.outside_io.specs.Causes.{Rose};
 ghost use Rattle.disk_model.specs.Disk.{IsUnchanged};
-ghost use Rattle.job_words.specs.Words.{texts_of};
 ghost use Rattle.job_words.specs.Jobs.{job_of};
 ghost use Rattle.job_words.specs.Valid.{IsValidSpace, IsLimit};
 ghost use Rattle.node_page.specs.Heads.{IsValidHead};
@@ -17,6 +16,7 @@ ghost use Rattle.session_run.specs.Job.{IsComplete};
 ghost use Rattle.job_scan.specs.Jobs.{Asked};
 ghost use Rattle.mtree_cli.specs.Run.{Does, HasTooManyPages, IsScan, IsSession, IsStatusOf, TakesWithin, marks_of, new_head, task_of, uses_of};
 
+use crate::request::Request;
 use batch_run::jobs::{audit_index_by, run_batch};
 use disk_model::{Disk, SharedDisk};
 use job_dump::dump_index;
@@ -32,7 +32,7 @@ use job_seal::{carry_logs, prove_logs, seal_index};
 use job_show::{Marks, show_logs};
 use job_show_joins::show_join_logs;
 use job_stats::stats_index;
-use job_words::{Job, JobFault, PolicyNames, SpaceName, read_job};
+use job_words::{Job, JobFault, PolicyNames, SpaceName};
 use load_threads::ByThreads;
 use log_model::laws::least_logs_are_sound;
 use node_page::Head;
@@ -77,7 +77,7 @@ fn marks_of(counts_only: bool) -> Marks
     }
 }
 
-/// Does the job of the words after the program's name, and returns the status.
+/// Does the job of `request`, the words after the program's name, and returns the status.
 ///
 /// `scan` runs the script of `input` on a plain list. `create` makes `index` an empty index. `gen` makes it an index of generated
 /// rows. `migrate` makes it an index of the objects of `other`, a file of version 1. `session` runs the script of `input` on `index`
@@ -92,12 +92,12 @@ fn marks_of(counts_only: bool) -> Marks
 /// `untouched`, `log_untouched`, `other`, `log_out`, `kept`); what is taken of the inputs (`long`, `end`); which statuses come
 /// (`statuses`); when it succeeds (`complete`, `complete_session`); the cause of an error (`input`, `output`, `disk`, `either_output`,
 /// `either_disk`); faults of the devices (`counts`).
-/// Arguments: `rt` and `alloc` are the machine's, `words` name the job, and `index`, `other`, `input`, `log_in`, `out` and `log_out` are
+/// Arguments: `rt` and `alloc` are the machine's, `request` names the job, and `index`, `other`, `input`, `log_in`, `out` and `log_out` are
 /// all that a job may touch.
 pub fn run<R: Threads + Sync, D: SharedDisk, E: Disk, S: Source, L: Source, K: Sink, T: Sink>(
     rt: &R,
     alloc: Global,
-    words: &[String],
+    request: &Request<'_>,
     index: &mut D,
     other: &mut E,
     input: &mut S,
@@ -106,7 +106,7 @@ pub fn run<R: Threads + Sync, D: SharedDisk, E: Disk, S: Source, L: Source, K: S
     log_out: &mut T,
 ) -> Status
     // What the job of the words does to the files, and what it writes. Words without a job give the usage line.
-    ensures does { Does (task_of (job_of (texts_of words.now)))
+    ensures does { Does (task_of (job_of request.now))
         (record {
           index = D.state index.old;
           other = E.state other.old;
@@ -139,46 +139,46 @@ pub fn run<R: Threads + Sync, D: SharedDisk, E: Disk, S: Source, L: Source, K: S
     ensures logs_are_sound { LeastLogsAreSound }
 
     // These are the only statuses.
-    ensures statuses { IsStatusOf (task_of (job_of (texts_of words.now))) result.0 }
+    ensures statuses { IsStatusOf (task_of (job_of request.now)) result.0 }
 
     // The table `uses` says what each job takes and puts. When memory runs out, the index stays as it is, except after a session or a
     // load that changed it. No run changes the other index. A job that needs no script, no index, no logs, no other index or no log
     // output does not touch it.
-    ensures memory { (uses_of (texts_of words.now)).changes_early ≡ false → result.0 ≡ 8 →
+    ensures memory { (uses_of request.now).changes_early ≡ false → result.0 ≡ 8 →
         IsUnchanged (D.state index.old) (D.state index.new) }
     ensures other_same { IsUnchanged (E.state other.old) (E.state other.new) }
-    ensures index { (uses_of (texts_of words.now)).index ≡ false → index.new ≡ index.old }
-    ensures untouched { (uses_of (texts_of words.now)).input ≡ false → input.new ≡ input.old }
-    ensures log_untouched { (uses_of (texts_of words.now)).log_in ≡ false → log_in.new ≡ log_in.old }
-    ensures other { (uses_of (texts_of words.now)).other ≡ false → other.new ≡ other.old }
-    ensures log_out { (uses_of (texts_of words.now)).log_out ≡ false → log_out.new ≡ log_out.old }
-    ensures kept { (uses_of (texts_of words.now)).puts_early ≡ false → result.0 ≢ 0 → result.0 ≢ 4 → log_out.new ≡ log_out.old }
+    ensures index { (uses_of request.now).index ≡ false → index.new ≡ index.old }
+    ensures untouched { (uses_of request.now).input ≡ false → input.new ≡ input.old }
+    ensures log_untouched { (uses_of request.now).log_in ≡ false → log_in.new ≡ log_in.old }
+    ensures other { (uses_of request.now).other ≡ false → other.new ≡ other.old }
+    ensures log_out { (uses_of request.now).log_out ≡ false → log_out.new ≡ log_out.old }
+    ensures kept { (uses_of request.now).puts_early ≡ false → result.0 ≢ 0 → result.0 ≢ 4 → log_out.new ≡ log_out.old }
 
     // A failed read or write is reported only where the device's count of faults rose.
     ensures input { result.0 ≡ 3 → Rose (S.faults input.old) (S.faults input.new) ⊎ Rose (L.faults log_in.old) (L.faults log_in.new) }
-    ensures output { (uses_of (texts_of words.now)).log_out ≡ false → result.0 ≡ 4 →
+    ensures output { (uses_of request.now).log_out ≡ false → result.0 ≡ 4 →
         Rose (K.state out.old).faults (K.state out.new).faults }
     ensures either_output { result.0 ≡ 4 → Rose (K.state out.old).faults (K.state out.new).faults
         ⊎ Rose (T.state log_out.old).faults (T.state log_out.new).faults }
-    ensures disk { (uses_of (texts_of words.now)).other ≡ false → result.0 ≡ 5 →
+    ensures disk { (uses_of request.now).other ≡ false → result.0 ≡ 5 →
         Rose (D.state index.old).faults (D.state index.new).faults }
     ensures either_disk { result.0 ≡ 5 → Rose (D.state index.old).faults (D.state index.new).faults
         ⊎ Rose (E.state other.old).faults (E.state other.new).faults }
 
     // A run takes at most 2 ^ 26 bytes of input and 2 ^ 30 of logs, and a buffer more of each. Status 7 comes where it took more
     // than that, and otherwise only where the index has too many pages.
-    ensures long { TakesWithin (HasTooManyPages (uses_of (texts_of words.now)) (D.state index.old)) (S.left input.old)
+    ensures long { TakesWithin (HasTooManyPages (uses_of request.now) (D.state index.old)) (S.left input.old)
         (S.left input.new) (L.left log_in.old) (L.left log_in.new) result.0 }
 
     // A scan that is done has taken all input.
-    ensures end { (asked : Asked) → IsScan (texts_of words.now) asked → result.0 ≡ 0 → IsAtEnd (S.left input.new) }
+    ensures end { (asked : Asked) → IsScan request.now asked → result.0 ≡ 0 → IsAtEnd (S.left input.new) }
 
     // With no fault and an input within its limit a scan is done, unless memory runs out.
-    ensures complete { (asked : Asked) → IsScan (texts_of words.now) asked → IfSome (S.left input.old) (λ bytes. length bytes ≤ 2 ^ 26 →
+    ensures complete { (asked : Asked) → IsScan request.now asked → IfSome (S.left input.old) (λ bytes. length bytes ≤ 2 ^ 26 →
         ¬ Rose (S.faults input.old) (S.faults input.new) → ¬ Rose (K.state out.old).faults (K.state out.new).faults →
         (result.0 ≡ 0) ⊎ (result.0 ≡ 8)) }
     // The same holds for a session on a sound file, where its index and the log's output did not fail either.
-    ensures complete_session { IsSession (texts_of words.now) → IsComplete (S.left input.old) (D.state index.old)
+    ensures complete_session { IsSession request.now → IsComplete (S.left input.old) (D.state index.old)
         (Rose (S.faults input.old) (S.faults input.new) ⊎ (Rose (D.state index.old).faults (D.state index.new).faults
         ⊎ (Rose (K.state out.old).faults (K.state out.new).faults
         ⊎ Rose (T.state log_out.old).faults (T.state log_out.new).faults))) result.0 }
@@ -192,7 +192,7 @@ pub fn run<R: Threads + Sync, D: SharedDisk, E: Disk, S: Source, L: Source, K: S
     accepted_show();
     carried_logs_are_accepted();
     let crew = ByThreads::new(rt);
-    match read_job(alloc, words) {
+    match request.job() {
         Ok(
             Job::Scan {
                 space,

@@ -3,6 +3,7 @@
 ghost use Rattle.std.specs.Prelude.{◌≤◌};
 
 use crate::program::run;
+use crate::request::Request;
 use disk_model::{MemoryDisk, SharedDisk};
 use outside_io::{MemorySink, MemorySource, Status};
 use std::alloc::{AllocError, Global};
@@ -119,7 +120,7 @@ pub fn run_on<R: AllocGlobal + Abort + Threads + Sync, D: SharedDisk>(
     let status = run(
         rt,
         rt.alloc(),
-        &words,
+        &Request::read(rt.alloc(), &words),
         index,
         other,
         &mut input,

@@ -1,6 +1,7 @@
 // What the program writes for its user on standard error: why a run did not do what was asked. Its results are on standard output.
 
 use crate::files::Ended;
+use crate::request::Request;
 use crate::watched::Replies;
 use job_words::{Complaint, complaint_on};
 use named_files::{Denial, Refusal};
@@ -103,7 +104,7 @@ pub fn tell_not_text(rt: &HostRuntime) {
 /// index, and how many commands were refused.
 pub fn tell_of(
     rt: &HostRuntime,
-    words: &[String],
+    request: &Request<'_>,
     ended: &Ended<'_, io::Error>,
     replies: &Replies,
 ) {
@@ -111,7 +112,7 @@ pub fn tell_of(
         tell_refused(rt, refusal);
     }
     if ended.status.0 == 2 {
-        tell_complaint(rt, words);
+        tell_complaint(rt, request.words());
     }
     if ended.status.0 == 5 {
         if let Some((name, reason)) = &ended.fault {

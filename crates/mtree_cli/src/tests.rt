@@ -1,5 +1,6 @@
 use crate::files::run_on_files;
 use crate::log_tests::{check_given, check_words};
+use crate::request::Request;
 use crate::runs::{Given, Ran, disk, run_on, with_input, words};
 use disk_model::SharedDisk;
 use named_files::HostFolder;
@@ -219,9 +220,10 @@ fn run_command<R: AllocGlobal + Abort + Threads + Sync>(
     line: &str,
 ) -> (Status, bool) {
     let words = words(rt, line);
+    let request = Request::read(rt.alloc(), &words);
     let mut input = MemorySource::new(Vec::new(rt.alloc()), 1, Vec::new(rt.alloc()));
     let mut out = MemorySink::new(rt.alloc(), 1000, Vec::new(rt.alloc())).expect(rt, "memory");
-    let ended = run_on_files(rt, rt.alloc(), &words, folder, &mut input, &mut out);
+    let ended = run_on_files(rt, rt.alloc(), &request, folder, &mut input, &mut out);
     (ended.status, ended.refusal.is_some())
 }
 

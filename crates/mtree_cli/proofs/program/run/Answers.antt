@@ -1,5 +1,4 @@
 use Rattle.std.proofs.Common.{refl, inl, sym, subst, arith}
-use Rattle.job_words.specs.Words.{texts_of}
 use Rattle.job_words.specs.Jobs.{job_of}
 use Rattle.job_words.specs.declared.job.Job.TheVariants as job
 use Rattle.job_files.specs.declared.logs.report.Report.TheVariants.{Verdicts, Answers}
@@ -11,14 +10,14 @@ pub returns-in-Ok-Scan-clause-does : goal.returns-in-Ok-Scan-clause-does
 returns-in-Ok-Scan-clause-does g c =
     let P : Task → Type 0 = λ t. Does t (scene (g.D.Disk.state c.args.index.now) (g.E.Disk.state c.args.other.now) (g.L.Source.left c.args.log_in.now) (g.T.Sink.state c.args.log_out.now) (g.K.Sink.state c.args.out.now))
     (scene (g.D.Disk.state c.args.index.now) (g.E.Disk.state c.args.other.now) (g.L.Source.left c.args.log_in.now) (g.T.Sink.state c.args.log_out.now) (g.K.Sink.state c.run_scan.new.out)) (g.S.Source.left c.args.input.now) c.run_scan.result.0 in
-    subst P (sym (task_is (texts_of c.args.words.now) c.in-Ok-Scan.field-0 (job.Scan c.in-Ok-Scan.space c.in-Ok-Scan.limit c.in-Ok-Scan.show_tags) c.in-Ok-Scan.ensures.job c.in-Ok-Scan.field-0-is)) c.run_scan.ensures.wrote
+    subst P (sym (task_is c.args.request.now c.in-Ok-Scan.field-0 (job.Scan c.in-Ok-Scan.space c.in-Ok-Scan.limit c.in-Ok-Scan.show_tags) c.in-Ok-Scan.ensures.job c.in-Ok-Scan.field-0-is)) c.run_scan.ensures.wrote
 
 pub returns-in-Ok-Scan-clause-memory : goal.returns-in-Ok-Scan-clause-memory
 returns-in-Ok-Scan-clause-memory g c = λ no is. unchanged (g.D.Disk.state c.args.index.now)
 
 pub returns-in-Ok-Scan-clause-untouched : goal.returns-in-Ok-Scan-clause-untouched
 returns-in-Ok-Scan-clause-untouched g c = λ no.
-    absurd (is_used (λ used. used.input) (texts_of c.args.words.now) c.in-Ok-Scan.field-0 (job.Scan c.in-Ok-Scan.space c.in-Ok-Scan.limit c.in-Ok-Scan.show_tags) c.in-Ok-Scan.ensures.job c.in-Ok-Scan.field-0-is refl no)
+    absurd (is_used (λ used. used.input) c.args.request.now c.in-Ok-Scan.field-0 (job.Scan c.in-Ok-Scan.space c.in-Ok-Scan.limit c.in-Ok-Scan.show_tags) c.in-Ok-Scan.ensures.job c.in-Ok-Scan.field-0-is refl no)
 
 pub returns-in-Ok-Create-clause-long : goal.returns-in-Ok-Create-clause-long
 returns-in-Ok-Create-clause-long g c = nothing_taken _ (g.S.Source.left c.args.input.now) (g.L.Source.left c.args.log_in.now) c.create_index.result.0 (grind (arith))
@@ -54,13 +53,13 @@ pub returns-in-Ok-Audit-clause-long : goal.returns-in-Ok-Audit-clause-long
 returns-in-Ok-Audit-clause-long g c = nothing_taken _ (g.S.Source.left c.args.input.now) (g.L.Source.left c.args.log_in.now) c.audit_index_by.result.0 (grind (arith))
 
 pub returns-in-Err-Memory-clause-does : goal.returns-in-Err-Memory-clause-does
-returns-in-Err-Memory-clause-does g c = memory_does (task_of (job_of (texts_of c.args.words.now))) (g.D.Disk.state c.args.index.now) (g.E.Disk.state c.args.other.now) (g.S.Source.left c.args.input.now) (g.L.Source.left c.args.log_in.now) (g.T.Sink.state c.args.log_out.now) _ _ c.end_with.result.0 c.end_with.ensures.status c.end_with.ensures.line
+returns-in-Err-Memory-clause-does g c = memory_does (task_of (job_of c.args.request.now)) (g.D.Disk.state c.args.index.now) (g.E.Disk.state c.args.other.now) (g.S.Source.left c.args.input.now) (g.L.Source.left c.args.log_in.now) (g.T.Sink.state c.args.log_out.now) _ _ c.end_with.result.0 c.end_with.ensures.status c.end_with.ensures.line
 
 pub returns-in-Err-Memory-clause-memory : goal.returns-in-Err-Memory-clause-memory
 returns-in-Err-Memory-clause-memory g c = λ no is. unchanged (g.D.Disk.state c.args.index.now)
 
 pub returns-in-Err-Memory-clause-statuses : goal.returns-in-Err-Memory-clause-statuses
-returns-in-Err-Memory-clause-statuses g c = memory_status (task_of (job_of (texts_of c.args.words.now))) c.end_with.result.0 c.end_with.ensures.status
+returns-in-Err-Memory-clause-statuses g c = memory_status (task_of (job_of c.args.request.now)) c.end_with.result.0 c.end_with.ensures.status
 
 pub returns-in-Err-Usage-clause-memory : goal.returns-in-Err-Usage-clause-memory
 returns-in-Err-Usage-clause-memory g c = λ no is. unchanged (g.D.Disk.state c.args.index.now)
@@ -168,18 +167,18 @@ pub returns-in-Ok-Session-clause-does : goal.returns-in-Ok-Session-clause-does
 returns-in-Ok-Session-clause-does g c =
     let P : Task → Type 0 = λ t. Does t (scene (g.D.Disk.state c.args.index.now) (g.E.Disk.state c.args.other.now) (g.L.Source.left c.args.log_in.now) (g.T.Sink.state c.args.log_out.now) (g.K.Sink.state c.args.out.now))
     (scene (g.D.Disk.state c.run_session.new.index) (g.E.Disk.state c.args.other.now) (g.L.Source.left c.args.log_in.now) (g.T.Sink.state c.run_session.new.log_out) (g.K.Sink.state c.run_session.new.out)) (g.S.Source.left c.args.input.now) c.run_session.result.0 in
-    subst P (sym (task_is (texts_of c.args.words.now) c.in-Ok-Session.field-0 (job.Session c.in-Ok-Session.field-0-0 c.in-Ok-Session.field-0-1 c.in-Ok-Session.workers c.in-Ok-Session.show_tags) c.in-Ok-Session.ensures.job c.in-Ok-Session.field-0-is)) c.run_session.ensures.runs
+    subst P (sym (task_is c.args.request.now c.in-Ok-Session.field-0 (job.Session c.in-Ok-Session.field-0-0 c.in-Ok-Session.field-0-1 c.in-Ok-Session.workers c.in-Ok-Session.show_tags) c.in-Ok-Session.ensures.job c.in-Ok-Session.field-0-is)) c.run_session.ensures.runs
 
 pub returns-in-Ok-Session-clause-memory : goal.returns-in-Ok-Session-clause-memory
 returns-in-Ok-Session-clause-memory g c = λ no is.
-    absurd (is_used (λ used. used.changes_early) (texts_of c.args.words.now) c.in-Ok-Session.field-0 (job.Session c.in-Ok-Session.field-0-0 c.in-Ok-Session.field-0-1 c.in-Ok-Session.workers c.in-Ok-Session.show_tags) c.in-Ok-Session.ensures.job c.in-Ok-Session.field-0-is refl no)
+    absurd (is_used (λ used. used.changes_early) c.args.request.now c.in-Ok-Session.field-0 (job.Session c.in-Ok-Session.field-0-0 c.in-Ok-Session.field-0-1 c.in-Ok-Session.workers c.in-Ok-Session.show_tags) c.in-Ok-Session.ensures.job c.in-Ok-Session.field-0-is refl no)
 
 pub returns-in-Ok-Session-clause-kept : goal.returns-in-Ok-Session-clause-kept
 returns-in-Ok-Session-clause-kept g c = λ no a b.
-    absurd (is_used (λ used. used.puts_early) (texts_of c.args.words.now) c.in-Ok-Session.field-0 (job.Session c.in-Ok-Session.field-0-0 c.in-Ok-Session.field-0-1 c.in-Ok-Session.workers c.in-Ok-Session.show_tags) c.in-Ok-Session.ensures.job c.in-Ok-Session.field-0-is refl no)
+    absurd (is_used (λ used. used.puts_early) c.args.request.now c.in-Ok-Session.field-0 (job.Session c.in-Ok-Session.field-0-0 c.in-Ok-Session.field-0-1 c.in-Ok-Session.workers c.in-Ok-Session.show_tags) c.in-Ok-Session.ensures.job c.in-Ok-Session.field-0-is refl no)
 
 pub returns-in-Ok-Session-clause-untouched : goal.returns-in-Ok-Session-clause-untouched
-returns-in-Ok-Session-clause-untouched g c = λ no. absurd (is_used (λ used. used.input) (texts_of c.args.words.now) c.in-Ok-Session.field-0 (job.Session c.in-Ok-Session.field-0-0 c.in-Ok-Session.field-0-1 c.in-Ok-Session.workers c.in-Ok-Session.show_tags) c.in-Ok-Session.ensures.job c.in-Ok-Session.field-0-is refl no)
+returns-in-Ok-Session-clause-untouched g c = λ no. absurd (is_used (λ used. used.input) c.args.request.now c.in-Ok-Session.field-0 (job.Session c.in-Ok-Session.field-0-0 c.in-Ok-Session.field-0-1 c.in-Ok-Session.workers c.in-Ok-Session.show_tags) c.in-Ok-Session.ensures.job c.in-Ok-Session.field-0-is refl no)
 
 pub returns-in-Ok-Session-clause-long : goal.returns-in-Ok-Session-clause-long
 returns-in-Ok-Session-clause-long g c = input_taken _ _ _ (g.L.Source.left c.args.log_in.now) c.run_session.result.0 c.run_session.ensures.long
@@ -194,10 +193,10 @@ pub returns-in-Ok-Gen-clause-does : goal.returns-in-Ok-Gen-clause-does
 returns-in-Ok-Gen-clause-does g c =
     let P : Task → Type 0 = λ t. Does t (scene (g.D.Disk.state c.args.index.now) (g.E.Disk.state c.args.other.now) (g.L.Source.left c.args.log_in.now) (g.T.Sink.state c.args.log_out.now) (g.K.Sink.state c.args.out.now))
     (scene (g.D.Disk.state c.generate_index.new.disk) (g.E.Disk.state c.args.other.now) (g.L.Source.left c.args.log_in.now) (g.T.Sink.state c.args.log_out.now) (g.K.Sink.state c.generate_index.new.out)) (g.S.Source.left c.args.input.now) c.generate_index.result.0 in
-    subst P (sym (task_is (texts_of c.args.words.now) c.in-Ok-Gen.field-0 (job.Gen c.in-Ok-Gen.field-0-0 c.in-Ok-Gen.space c.in-Ok-Gen.count c.in-Ok-Gen.seed c.in-Ok-Gen.policies c.in-Ok-Gen.workers) c.in-Ok-Gen.ensures.job c.in-Ok-Gen.field-0-is)) (rw c.new_head-in-Ok-Gen.ensures.head at c.generate_index.ensures.generates)
+    subst P (sym (task_is c.args.request.now c.in-Ok-Gen.field-0 (job.Gen c.in-Ok-Gen.field-0-0 c.in-Ok-Gen.space c.in-Ok-Gen.count c.in-Ok-Gen.seed c.in-Ok-Gen.policies c.in-Ok-Gen.workers) c.in-Ok-Gen.ensures.job c.in-Ok-Gen.field-0-is)) (rw c.new_head-in-Ok-Gen.ensures.head at c.generate_index.ensures.generates)
 
 pub returns-in-Ok-Gen-clause-memory : goal.returns-in-Ok-Gen-clause-memory
-returns-in-Ok-Gen-clause-memory g c = λ no is. absurd (is_used (λ used. used.changes_early) (texts_of c.args.words.now) c.in-Ok-Gen.field-0 (job.Gen c.in-Ok-Gen.field-0-0 c.in-Ok-Gen.space c.in-Ok-Gen.count c.in-Ok-Gen.seed c.in-Ok-Gen.policies c.in-Ok-Gen.workers) c.in-Ok-Gen.ensures.job c.in-Ok-Gen.field-0-is refl no)
+returns-in-Ok-Gen-clause-memory g c = λ no is. absurd (is_used (λ used. used.changes_early) c.args.request.now c.in-Ok-Gen.field-0 (job.Gen c.in-Ok-Gen.field-0-0 c.in-Ok-Gen.space c.in-Ok-Gen.count c.in-Ok-Gen.seed c.in-Ok-Gen.policies c.in-Ok-Gen.workers) c.in-Ok-Gen.ensures.job c.in-Ok-Gen.field-0-is refl no)
 
 pub returns-in-Ok-Gen-clause-long : goal.returns-in-Ok-Gen-clause-long
 returns-in-Ok-Gen-clause-long g c = nothing_taken _ (g.S.Source.left c.args.input.now) (g.L.Source.left c.args.log_in.now) c.generate_index.result.0 (grind (arith))
@@ -212,10 +211,10 @@ pub returns-in-Ok-Migrate-clause-does : goal.returns-in-Ok-Migrate-clause-does
 returns-in-Ok-Migrate-clause-does g c =
     let P : Task → Type 0 = λ t. Does t (scene (g.D.Disk.state c.args.index.now) (g.E.Disk.state c.args.other.now) (g.L.Source.left c.args.log_in.now) (g.T.Sink.state c.args.log_out.now) (g.K.Sink.state c.args.out.now))
     (scene (g.D.Disk.state c.migrate_index.new.index) (g.E.Disk.state c.migrate_index.new.other) (g.L.Source.left c.args.log_in.now) (g.T.Sink.state c.args.log_out.now) (g.K.Sink.state c.migrate_index.new.out)) (g.S.Source.left c.args.input.now) c.migrate_index.result.0 in
-    subst P (sym (task_is (texts_of c.args.words.now) c.in-Ok-Migrate.field-0 (job.Migrate c.in-Ok-Migrate.field-0-0 c.in-Ok-Migrate.field-0-1) c.in-Ok-Migrate.ensures.job c.in-Ok-Migrate.field-0-is)) (c.migrate_index.ensures.migrates, c.migrate_index.ensures.complete)
+    subst P (sym (task_is c.args.request.now c.in-Ok-Migrate.field-0 (job.Migrate c.in-Ok-Migrate.field-0-0 c.in-Ok-Migrate.field-0-1) c.in-Ok-Migrate.ensures.job c.in-Ok-Migrate.field-0-is)) (c.migrate_index.ensures.migrates, c.migrate_index.ensures.complete)
 
 pub returns-in-Ok-Migrate-clause-memory : goal.returns-in-Ok-Migrate-clause-memory
-returns-in-Ok-Migrate-clause-memory g c = λ no is. absurd (is_used (λ used. used.changes_early) (texts_of c.args.words.now) c.in-Ok-Migrate.field-0 (job.Migrate c.in-Ok-Migrate.field-0-0 c.in-Ok-Migrate.field-0-1) c.in-Ok-Migrate.ensures.job c.in-Ok-Migrate.field-0-is refl no)
+returns-in-Ok-Migrate-clause-memory g c = λ no is. absurd (is_used (λ used. used.changes_early) c.args.request.now c.in-Ok-Migrate.field-0 (job.Migrate c.in-Ok-Migrate.field-0-0 c.in-Ok-Migrate.field-0-1) c.in-Ok-Migrate.ensures.job c.in-Ok-Migrate.field-0-is refl no)
 
 pub returns-in-Ok-Migrate-clause-long : goal.returns-in-Ok-Migrate-clause-long
 returns-in-Ok-Migrate-clause-long g c = nothing_taken _ (g.S.Source.left c.args.input.now) (g.L.Source.left c.args.log_in.now) c.migrate_index.result.0 (grind (arith))
@@ -227,21 +226,21 @@ pub returns-in-Ok-Batch-clause-does : goal.returns-in-Ok-Batch-clause-does
 returns-in-Ok-Batch-clause-does g c =
     let P : Task → Type 0 = λ t. Does t (scene (g.D.Disk.state c.args.index.now) (g.E.Disk.state c.args.other.now) (g.L.Source.left c.args.log_in.now) (g.T.Sink.state c.args.log_out.now) (g.K.Sink.state c.args.out.now))
     (scene (g.D.Disk.state c.run_batch.new.index) (g.E.Disk.state c.args.other.now) (g.L.Source.left c.args.log_in.now) (g.T.Sink.state c.run_batch.new.log_out) (g.K.Sink.state c.run_batch.new.out)) (g.S.Source.left c.args.input.now) c.run_batch.result.0 in
-    subst P (sym (task_is (texts_of c.args.words.now) c.in-Ok-Batch.field-0 (job.Batch c.in-Ok-Batch.field-0-0 c.in-Ok-Batch.workers c.in-Ok-Batch.field-0-2 c.in-Ok-Batch.show_tags) c.in-Ok-Batch.ensures.job c.in-Ok-Batch.field-0-is)) c.run_batch.ensures.runs
+    subst P (sym (task_is c.args.request.now c.in-Ok-Batch.field-0 (job.Batch c.in-Ok-Batch.field-0-0 c.in-Ok-Batch.workers c.in-Ok-Batch.field-0-2 c.in-Ok-Batch.show_tags) c.in-Ok-Batch.ensures.job c.in-Ok-Batch.field-0-is)) c.run_batch.ensures.runs
 
 pub returns-in-Ok-Batch-clause-memory : goal.returns-in-Ok-Batch-clause-memory
 returns-in-Ok-Batch-clause-memory g c = λ no is. c.run_batch.ensures.runs.unchanged
 
 pub returns-in-Ok-Batch-clause-kept : goal.returns-in-Ok-Batch-clause-kept
-returns-in-Ok-Batch-clause-kept g c = λ no a b. absurd (is_used (λ used. used.puts_early) (texts_of c.args.words.now) c.in-Ok-Batch.field-0 (job.Batch c.in-Ok-Batch.field-0-0 c.in-Ok-Batch.workers c.in-Ok-Batch.field-0-2 c.in-Ok-Batch.show_tags) c.in-Ok-Batch.ensures.job c.in-Ok-Batch.field-0-is refl no)
+returns-in-Ok-Batch-clause-kept g c = λ no a b. absurd (is_used (λ used. used.puts_early) c.args.request.now c.in-Ok-Batch.field-0 (job.Batch c.in-Ok-Batch.field-0-0 c.in-Ok-Batch.workers c.in-Ok-Batch.field-0-2 c.in-Ok-Batch.show_tags) c.in-Ok-Batch.ensures.job c.in-Ok-Batch.field-0-is refl no)
 
 pub returns-in-Ok-Batch-clause-untouched : goal.returns-in-Ok-Batch-clause-untouched
-returns-in-Ok-Batch-clause-untouched g c = λ no. absurd (is_used (λ used. used.input) (texts_of c.args.words.now) c.in-Ok-Batch.field-0 (job.Batch c.in-Ok-Batch.field-0-0 c.in-Ok-Batch.workers c.in-Ok-Batch.field-0-2 c.in-Ok-Batch.show_tags) c.in-Ok-Batch.ensures.job c.in-Ok-Batch.field-0-is refl no)
+returns-in-Ok-Batch-clause-untouched g c = λ no. absurd (is_used (λ used. used.input) c.args.request.now c.in-Ok-Batch.field-0 (job.Batch c.in-Ok-Batch.field-0-0 c.in-Ok-Batch.workers c.in-Ok-Batch.field-0-2 c.in-Ok-Batch.show_tags) c.in-Ok-Batch.ensures.job c.in-Ok-Batch.field-0-is refl no)
 
 pub returns-in-Ok-Batch-clause-long : goal.returns-in-Ok-Batch-clause-long
 returns-in-Ok-Batch-clause-long g c =
     let P : Task → Type 0 = λ t. TakesWithin (HasTooManyPages (uses t) (g.D.Disk.state c.args.index.now)) (g.S.Source.left c.args.input.now) (g.S.Source.left c.run_batch.new.input) (g.L.Source.left c.args.log_in.now) (g.L.Source.left c.args.log_in.now) c.run_batch.result.0 in
-    subst P (sym (task_is (texts_of c.args.words.now) c.in-Ok-Batch.field-0 (job.Batch c.in-Ok-Batch.field-0-0 c.in-Ok-Batch.workers c.in-Ok-Batch.field-0-2 c.in-Ok-Batch.show_tags) c.in-Ok-Batch.ensures.job c.in-Ok-Batch.field-0-is)) (batch_taken (g.S.Source.left c.args.input.now) (g.S.Source.left c.run_batch.new.input) (g.L.Source.left c.args.log_in.now) (g.D.Disk.state c.args.index.now) c.run_batch.result.0 c.run_batch.ensures.long)
+    subst P (sym (task_is c.args.request.now c.in-Ok-Batch.field-0 (job.Batch c.in-Ok-Batch.field-0-0 c.in-Ok-Batch.workers c.in-Ok-Batch.field-0-2 c.in-Ok-Batch.show_tags) c.in-Ok-Batch.ensures.job c.in-Ok-Batch.field-0-is)) (batch_taken (g.S.Source.left c.args.input.now) (g.S.Source.left c.run_batch.new.input) (g.L.Source.left c.args.log_in.now) (g.D.Disk.state c.args.index.now) c.run_batch.result.0 c.run_batch.ensures.long)
 
 pub returns-in-Ok-Batch-clause-other_same : goal.returns-in-Ok-Batch-clause-other_same
 returns-in-Ok-Batch-clause-other_same g c = unchanged (g.E.Disk.state c.args.other.now)
@@ -255,7 +254,7 @@ returns-in-Ok-Seal-clause-memory g c = λ no is. c.seal_index.ensures.seals.unch
 pub returns-in-Ok-Seal-clause-long : goal.returns-in-Ok-Seal-clause-long
 returns-in-Ok-Seal-clause-long g c =
     let P : Task → Type 0 = λ t. TakesWithin (HasTooManyPages (uses t) (g.D.Disk.state c.args.index.now)) (g.S.Source.left c.args.input.now) (g.S.Source.left c.args.input.now) (g.L.Source.left c.args.log_in.now) (g.L.Source.left c.args.log_in.now) c.seal_index.result.0 in
-    subst P (sym (task_is (texts_of c.args.words.now) c.in-Ok-Seal.field-0 (job.Seal c.in-Ok-Seal.field-0-0) c.in-Ok-Seal.ensures.job c.in-Ok-Seal.field-0-is)) (seal_taken (g.S.Source.left c.args.input.now) (g.L.Source.left c.args.log_in.now) _ _ _ _ c.seal_index.result.0 c.seal_index.ensures.seals)
+    subst P (sym (task_is c.args.request.now c.in-Ok-Seal.field-0 (job.Seal c.in-Ok-Seal.field-0-0) c.in-Ok-Seal.ensures.job c.in-Ok-Seal.field-0-is)) (seal_taken (g.S.Source.left c.args.input.now) (g.L.Source.left c.args.log_in.now) _ _ _ _ c.seal_index.result.0 c.seal_index.ensures.seals)
 
 pub returns-in-Ok-Seal-clause-other_same : goal.returns-in-Ok-Seal-clause-other_same
 returns-in-Ok-Seal-clause-other_same g c = unchanged (g.E.Disk.state c.args.other.now)
@@ -276,7 +275,7 @@ pub returns-in-Ok-Carry-clause-does : goal.returns-in-Ok-Carry-clause-does
 returns-in-Ok-Carry-clause-does g c =
     let P : Task → Type 0 = λ t. Does t (scene (g.D.Disk.state c.args.index.now) (g.E.Disk.state c.args.other.now) (g.L.Source.left c.args.log_in.now) (g.T.Sink.state c.args.log_out.now) (g.K.Sink.state c.args.out.now))
     (scene (g.D.Disk.state c.carry_logs.new.index) (g.E.Disk.state c.args.other.now) (g.L.Source.left c.carry_logs.new.log_in) (g.T.Sink.state c.carry_logs.new.log_out) (g.K.Sink.state c.carry_logs.new.out)) (g.S.Source.left c.args.input.now) c.carry_logs.result.0 in
-    subst P (sym (task_is (texts_of c.args.words.now) c.in-Ok-Carry.field-0 (job.Carry c.in-Ok-Carry.field-0-0 c.in-Ok-Carry.field-0-1 c.in-Ok-Carry.field-0-2) c.in-Ok-Carry.ensures.job c.in-Ok-Carry.field-0-is)) c.carry_logs.ensures.carries
+    subst P (sym (task_is c.args.request.now c.in-Ok-Carry.field-0 (job.Carry c.in-Ok-Carry.field-0-0 c.in-Ok-Carry.field-0-1 c.in-Ok-Carry.field-0-2) c.in-Ok-Carry.ensures.job c.in-Ok-Carry.field-0-is)) c.carry_logs.ensures.carries
 
 pub returns-in-Ok-Carry-clause-memory : goal.returns-in-Ok-Carry-clause-memory
 returns-in-Ok-Carry-clause-memory g c = λ no is. c.carry_logs.ensures.carries.unchanged
@@ -284,7 +283,7 @@ returns-in-Ok-Carry-clause-memory g c = λ no is. c.carry_logs.ensures.carries.u
 pub returns-in-Ok-Carry-clause-long : goal.returns-in-Ok-Carry-clause-long
 returns-in-Ok-Carry-clause-long g c =
     let P : Task → Type 0 = λ t. TakesWithin (HasTooManyPages (uses t) (g.D.Disk.state c.args.index.now)) (g.S.Source.left c.args.input.now) (g.S.Source.left c.args.input.now) (g.L.Source.left c.args.log_in.now) (g.L.Source.left c.carry_logs.new.log_in) c.carry_logs.result.0 in
-    subst P (sym (task_is (texts_of c.args.words.now) c.in-Ok-Carry.field-0 (job.Carry c.in-Ok-Carry.field-0-0 c.in-Ok-Carry.field-0-1 c.in-Ok-Carry.field-0-2) c.in-Ok-Carry.ensures.job c.in-Ok-Carry.field-0-is)) (carried_taken (g.S.Source.left c.args.input.now) _ _ _ _ _ _ _ _ c.carry_logs.result.0 c.carry_logs.ensures.carries)
+    subst P (sym (task_is c.args.request.now c.in-Ok-Carry.field-0 (job.Carry c.in-Ok-Carry.field-0-0 c.in-Ok-Carry.field-0-1 c.in-Ok-Carry.field-0-2) c.in-Ok-Carry.ensures.job c.in-Ok-Carry.field-0-is)) (carried_taken (g.S.Source.left c.args.input.now) _ _ _ _ _ _ _ _ c.carry_logs.result.0 c.carry_logs.ensures.carries)
 
 pub returns-in-Ok-Carry-clause-other_same : goal.returns-in-Ok-Carry-clause-other_same
 returns-in-Ok-Carry-clause-other_same g c = unchanged (g.E.Disk.state c.args.other.now)
@@ -293,4 +292,4 @@ pub returns-in-Ok-Carry-clause-either_disk : goal.returns-in-Ok-Carry-clause-eit
 returns-in-Ok-Carry-clause-either_disk g c = λ is. inl (c.carry_logs.ensures.disk is)
 
 pub returns-in-Ok-Carry-clause-kept : goal.returns-in-Ok-Carry-clause-kept
-returns-in-Ok-Carry-clause-kept g c = λ no a b. absurd (is_used (λ used. used.puts_early) (texts_of c.args.words.now) c.in-Ok-Carry.field-0 (job.Carry c.in-Ok-Carry.field-0-0 c.in-Ok-Carry.field-0-1 c.in-Ok-Carry.field-0-2) c.in-Ok-Carry.ensures.job c.in-Ok-Carry.field-0-is refl no)
+returns-in-Ok-Carry-clause-kept g c = λ no a b. absurd (is_used (λ used. used.puts_early) c.args.request.now c.in-Ok-Carry.field-0 (job.Carry c.in-Ok-Carry.field-0-0 c.in-Ok-Carry.field-0-1 c.in-Ok-Carry.field-0-2) c.in-Ok-Carry.ensures.job c.in-Ok-Carry.field-0-is refl no)
