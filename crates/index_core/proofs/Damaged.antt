@@ -202,7 +202,7 @@ module _ {M : Type 0} (file : OpenFile M) (before after : DiskState) (is_known :
   range_damage f n Disk walk = tt
   range_damage f n Memory walk = tt
   range_damage f n (Bad page why) walk =
-      let told = walk.2 is_known in let needs = told.1.2 in
+      let told = walk.1 is_known in let needs = told.1.2 in
       read_damage file.head.dim before.bytes file.live page (Bad page why) told.0 (needed_reached f (nodes file.head.dim before.bytes file.live) file.live.root told.1.0 page needs)
   range_damage f n (Outside page) walk =
       let told = walk.1 is_known in
@@ -215,7 +215,7 @@ module _ {M : Type 0} (file : OpenFile M) (before after : DiskState) (is_known :
   nearest_damage n Disk walk = tt
   nearest_damage n Memory walk = tt
   nearest_damage n (Bad page why) walk =
-      let told = walk.2 is_known in
+      let told = walk.1 is_known in
       read_damage file.head.dim before.bytes file.live page (Bad page why) told.0 (path_reached (nodes file.head.dim before.bytes file.live) file.live.root told.1.0 file.live.root page at_root told.1.1)
   nearest_damage n (Outside page) walk =
       let told = walk.1 is_known in
@@ -281,7 +281,7 @@ module _ {M : Type 0} (file : OpenFile M) (before after : DiskState) (is_known :
   tags_damage records Disk walk = tt
   tags_damage records Memory walk = tt
   tags_damage records (Bad page why) (at, cause, comes) =
-      read_damage file.head.dim before.bytes file.live at (Bad page why) (cause.3 is_known ∙ ap (λ (q : ℕ). Err (Bad q why)) (sym cause.0)) (reached at (comes is_known))
+      read_damage file.head.dim before.bytes file.live at (Bad page why) (cause.2 is_known ∙ ap (λ (q : ℕ). Err (Bad q why)) (sym cause.0)) (reached at (comes is_known))
     where
       reached : (at : ℕ) → ComesTo (nodes file.head.dim before.bytes file.live) (file.live.root ∷ []) records at → IsReached (nodes file.head.dim before.bytes file.live) file.live.root at
       reached at comes = comes_reached (nodes file.head.dim before.bytes file.live) file.live.root (file.live.root ∷ []) records at (λ p i. elim i [ inl same ↦ subst (IsReached (nodes file.head.dim before.bytes file.live) file.live.root) (sym same) at_root | inr none ↦ absurd none ]) comes

@@ -146,7 +146,7 @@ list_cause {M} fault result before_pages after_pages file before faults t old li
     cases : (f : PageFault) → IsWalkFault (pages_on file before 0) after_pages (tree_walk (pages_on file before 0).read file.live) f → HasListCause file before faults (read_fault f)
     cases Disk w = subst (λ (n : ℕ). Rose before.faults n) new w
     cases Memory w = tt
-    cases (Bad page f) w = (tt, w.2)
+    cases (Bad page f) w = (tt, w.1)
     cases (Outside page) w = (tt, w.1)
     cases (Repeats page) w = (tt, w.1)
     cases (Level page) w = absurd w

@@ -59,7 +59,7 @@ module _ {M : Type 0} (s : Space) (write : Write) (file : OpenFile M) (f : FreeP
       record { given = e.given; uses = e.uses; more = e.more; fresh = e.fresh; once = e.once; left_within = e.left_within })
 
   sound_file : {points : List (List ℕ)} {tags : List ℕ} → HasObjects s file before points tags → IsSoundFile s file.head file.live before.bytes
-  sound_file has = record { opens = stands.opens has.is_known; version = valid.version; dimension = valid.words_are; tree = has.sound }
+  sound_file has = record { opens = stands.opens has.is_known; version = valid.version; dimension = valid.dimension_is; tree = has.sound }
 
   after_is : {points : List (List ℕ)} {tags : List ℕ} → HasObjects s file before points tags → {t : Live} {nodes : Nodes} →
       IsTreeOf s nodes t (points_after write (points_by_id (nodes_on file before) file.live)) (tags_after write (tags_by_id (nodes_on file before) file.live)) →

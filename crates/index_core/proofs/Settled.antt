@@ -38,7 +38,7 @@ module _ {M : Type 0} (dimension : ℕ) (file : OpenFile M) (f : FreePages) (spa
   next_valid = record {
     head = valid.head;
     version = valid.version;
-    words_are = valid.words_are;
+    dimension_is = valid.dimension_is;
     side = let s = on.placement.side in omega arith;
     live = (placed.next.pages * 4096, on.placement.valid);
     kept = forgotten_valid file.head.dim file.live.pages placed.next.pages (pages_of placed.staged) file.kept (can_follow.0.low_pages) valid.kept;
@@ -93,7 +93,7 @@ pub forgotten_file : {M : Type 0} (dimension : ℕ) (file : OpenFile M) (pages :
 forgotten_file dimension file pages valid = record {
   head = valid.head;
   version = valid.version;
-  words_are = valid.words_are;
+  dimension_is = valid.dimension_is;
   side = valid.side;
   live = valid.live;
   kept = forgotten_valid file.head.dim file.live.pages file.live.pages pages file.kept (omega arith) valid.kept;

@@ -34,7 +34,7 @@ holds s file disk points tags valid stands has = record {
   is = record {
     opens = stands.opens has.is_known;
     version = valid.version;
-    dimension = valid.words_are;
+    dimension = valid.dimension_is;
     tree = record { sound = has.sound; points_are = has.points_are; tags_are = has.tags_are };
   };
 }

@@ -43,7 +43,7 @@ IsValidKept dim pages kept = MatchOption kept (Unit {0}) (λ pairs. All (λ pair
 pub record IsValidFile {M : Type 0} (dimension : ℕ) (file : OpenFile M) : Type 0 where
   pub head : IsValidHead file.head
   pub version : file.head.version ≡ 2
-  pub words_are : dimension ≡ file.head.dim
+  pub dimension_is : dimension ≡ file.head.dim
   pub side : file.live.side ≤ 1
   pub live : (size : ℕ) × IsValidLive file.head.limit size file.live
   pub kept : IsValidKept file.head.dim file.live.pages file.kept

@@ -1,7 +1,10 @@
 ghost use Rattle.std.specs.Prelude.{◌≡◌, ◌⊎◌, ◌+◌, ◌≤◌, [], false, true, List, ℕ, Err, IsTrue, IfOk, IfErr, OnOk, OnErr, None, Some};
 ghost use Rattle.lru.specs.LruCache.{lru_cache};
 ghost use Rattle.scan_model.specs.declared.query.Query.TheVariants.{Range, Nearest};
+ghost use Rattle.outside_io.specs.Causes.{HasCause};
 ghost use Rattle.disk_model.specs.Disk.{MayLeave, LeavesOnly, EachImage};
+ghost use Rattle.node_page.specs.Heads.{IsValidHead};
+ghost use Rattle.node_page.specs.Opening.{IsValidLive, OpensTo};
 ghost use Rattle.nearest_search.specs.Searched.{IsFront};
 ghost use Rattle.page_store.specs.Shelf.{Shelf};
 ghost use Rattle.index_core.specs.Files.{IsValidFile, OnlyReads, nodes_on};
@@ -13,7 +16,7 @@ ghost use Rattle.index_core.specs.Answers.{HasSearched, IsFoundOn, HasRangeCause
 
 use crate::view::View;
 use crate::{IndexFault, Memory, Shape};
-use disk_model::Disk;
+use disk_model::{Disk, Failed};
 use free_pages::Free;
 use log_model::Found;
 use metric_laws::Metric;
@@ -74,12 +77,54 @@ impl<M: Metric> Index<M> {
             return Err(OpenFault::Disk);
         }
         let view = View::open_read(disk, metric)?;
-        Ok(Index {
+        Ok(Index::on(view))
+    }
+
+    /// Makes the index of a file that was opened to `head` and `live`, after a sync: what a read gives then is all that a crash may
+    /// leave. `metric` measures its points. A load uses one thread, and no free list is made yet. Nothing is read. `Failed` comes
+    /// where the sync failed.
+    /// Clauses: what is asked of the caller (`opens`, `head`, `version`, `dimension`, `side`, `live`); the answer (`stands`, `opened`);
+    /// what stays (`bytes`, `is_known`); what a crash may leave (`time`); the cost (`reads`); the cause of an error (`cause`).
+    pub fn of_opened<D: Disk>(
+        disk: &mut D,
+        head: Head,
+        live: Live,
+        metric: M,
+    ) -> Result<Self, Failed>
+        requires opens { IsTrue (D.state disk.old).is_known → OpensTo (D.state disk.old).bytes head live }
+        requires head { IsValidHead head }
+        requires version { head.version ≡ 2 }
+        requires dimension { (M.space metric).dimension ≡ head.dim }
+        requires side { live.side ≤ 1 }
+        requires live { (size : ℕ) × IsValidLive head.limit size live }
+        ensures stands { IfOk result (λ index. StandsAlone index (D.state disk.new)) }
+        ensures opened { IfOk result (λ index. index ≡ record {
+          file = record { head = head; live = live; metric = metric; kept = None };
+          free = None;
+          stopped = false;
+          workers = 1;
+        }) }
+        ensures bytes { (D.state disk.new).bytes ≡ (D.state disk.old).bytes }
+        ensures is_known { (D.state disk.new).is_known ≡ (D.state disk.old).is_known }
+        // The sync only removes crash images.
+        ensures time { EachImage (D.state disk.old) (D.state disk.new) (MayLeave (D.state disk.old)) }
+        ensures reads { (D.state disk.new).reads ≡ (D.state disk.old).reads }
+        ensures cause { HasCause (D.state disk.old).faults (D.state disk.new).faults result }
+    {
+        disk.sync()?;
+        Ok(Index::on(View::of(head, live, metric)))
+    }
+
+    // Makes the index of an opened file. A load uses one thread, and no free list is made yet.
+    fn on(view: View<M>) -> Self
+        ensures { result ≡ record { file = view; free = None; stopped = false; workers = 1 } }
+    {
+        Index {
             view,
             free: None,
             stopped: false,
             workers: 1,
-        })
+        }
     }
 
     /// States what always holds of an opened index, for callers that hold a reference to one.

@@ -1,6 +1,5 @@
 // The free list of an index. It is made when it is first needed.
 ghost use Rattle.std.specs.Prelude.{◌≡◌, ◌+◌, ◌≤◌, None, IsTrue, IsSome, IfOk, IfErr, OnOk};
-ghost use Rattle.free_pages.specs.Keeping.{IsKept};
 ghost use Rattle.index_core.specs.Answers.{IsSoundOn};
 ghost use Rattle.index_core.specs.Causes.{BlamesNoPage, HasListCause, IsListOf, IsMadeList};
 ghost use Rattle.index_core.specs.Files.{StandsOn, OnlyReads, nodes_on};
@@ -18,7 +17,7 @@ use std::alloc::Global;
 
 impl<M: Metric> View<M> {
     // Lists the pages that the live tree does not need, by a walk of the tree.
-    // Clauses: what is asked of the caller (`stands`); the answer (`kept`, `made`, `valid`, `beside`, `exact`); what stays (`stands`,
+    // Clauses: what is asked of the caller (`stands`); the answer (`made`, `valid`, `beside`, `exact`); what stays (`stands`,
     // `reads`); the cost (`few`); the cause of an error (`cause`, `undamaged`); faults of the devices (`no_fault`).
     fn list_free<D: Disk>(&mut self, alloc: Global, disk: &mut D) -> Result<Free, IndexFault>
         requires stands { StandsOn self.old (D.state disk.old) }
@@ -26,7 +25,6 @@ impl<M: Metric> View<M> {
         ensures reads { OnlyReads self.old self.new (D.state disk.old) (D.state disk.new) }
         ensures no_fault { OnOk result ((D.state disk.new).faults ≡ (D.state disk.old).faults) }
         ensures few { (D.state disk.new).reads ≤ (D.state disk.old).reads + self.old.live.pages }
-        ensures kept { IfOk result IsKept }
         ensures made { IfOk result (IsMadeList self.old (D.state disk.old)) }
         ensures valid { IfOk result (IsValidFree self.old.live) }
         ensures beside { IfOk result (λ f. IsTrue (D.state disk.old).is_known →
@@ -52,7 +50,7 @@ impl<M: Metric> View<M> {
 
 impl<M: Metric> Index<M> {
     // Takes the free list out. Where it isn't made yet, the live tree is walked once.
-    // Clauses: what is asked of the caller (`stands`); the answer (`list`, `kept`, `valid`, `beside`, `exact`); what changes (`rest`);
+    // Clauses: what is asked of the caller (`stands`); the answer (`list`, `valid`, `beside`, `exact`); what changes (`rest`);
     // what stays (`stands`, `reads`, `there`); the cost (`few`); the cause of an error (`made`, `cause`, `undamaged`); faults of the
     // devices (`no_fault`).
     pub(crate) fn take_free<D: Disk>(
@@ -67,7 +65,6 @@ impl<M: Metric> Index<M> {
         ensures few { (D.state disk.new).reads ≤ (D.state disk.old).reads + self.old.file.live.pages }
         ensures rest { self.new ≡ record self.old { file = self.new.file; free = None } }
         ensures list { IfOk result (IsListOf self.old (D.state disk.old)) }
-        ensures kept { IfOk result IsKept }
         ensures valid { IfOk result (IsValidFree self.old.file.live) }
         ensures beside { IfOk result (λ f. IsTrue (D.state disk.old).is_known →
             AreSpare (nodes_on self.old.file (D.state disk.old)) self.old.file.live f) }
@@ -80,7 +77,6 @@ impl<M: Metric> Index<M> {
             IsSoundOn (M.space self.old.file.metric) self.old.file (D.state disk.old) → BlamesNoPage fault) }
     {
         if let Some(free) = self.free.take() {
-            free.are_kept();
             return Ok(free);
         }
         let free = match self.view.list_free(alloc, disk) {

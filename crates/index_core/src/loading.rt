@@ -67,7 +67,6 @@ impl<M: Metric> View<M> {
             IsPlacedFor (M.space self.now.metric) self.now.head (Loads rows.now.points tags.now) nodes self.now.live placement.placed) }
         ensures cause { IfErr result (HasLoadCause (M.space self.now.metric) self.now free.now rows.now.points tags.now) }
     {
-        free.are_kept();
         let (head, live) = (self.head, self.live);
         let numbers = free.least(alloc, free.len())?;
         let answer = build(

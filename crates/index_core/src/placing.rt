@@ -61,7 +61,6 @@ impl<M: Metric> View<M> {
         ensures undamaged { IfErr result (λ fault. IsSoundOn (M.space self.old.metric) self.old (D.state disk.old) → BlamesNoPage fault) }
         ensures few { (D.state disk.new).reads ≤ (D.state disk.old).reads + (self.old.live.height + 1) }
     {
-        free.are_kept();
         let (head, live) = (self.head, self.live);
         let numbers = free.least(alloc, 2 * live.height as usize + 3)?;
         let mut ruler = Meter::new(self.metric);

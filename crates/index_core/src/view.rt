@@ -1,7 +1,9 @@
-ghost use Rattle.std.specs.Prelude.{◌≡◌, ◌≤◌, ◌+◌, [], IsTrue, IfOk, IfErr, OnOk, OnErr, None, Some};
+ghost use Rattle.std.specs.Prelude.{◌≡◌, ℕ, ◌≤◌, ◌+◌, [], IsTrue, IfOk, IfErr, OnOk, OnErr, None, Some};
 ghost use Rattle.lru.specs.LruCache.{lru_cache};
 ghost use Rattle.scan_model.specs.declared.query.Query.TheVariants.{Range, Nearest};
 ghost use Rattle.disk_model.specs.Disk.{IsUnchanged};
+ghost use Rattle.node_page.specs.Heads.{IsValidHead};
+ghost use Rattle.node_page.specs.Opening.{IsValidLive};
 ghost use Rattle.nearest_search.specs.Searched.{IsFront};
 ghost use Rattle.page_store.specs.Shelf.{Shelf};
 ghost use Rattle.page_store.specs.Shelves.{disk_shelf};
@@ -77,12 +79,24 @@ impl<M: Metric> View<M> {
         if metric.dimension() != usize::from(head.dim) {
             return Err(OpenFault::Head(HeadFault::Space));
         }
-        Ok(View {
+        Ok(View::of(head, live, metric))
+    }
+
+    // Makes the view of a file of version 2 that was opened to `head` and `live`. Nothing is kept of its nodes.
+    pub(crate) fn of(head: Head, live: Live, metric: M) -> Self
+        requires head { IsValidHead head }
+        requires version { head.version ≡ 2 }
+        requires dimension { (M.space metric).dimension ≡ head.dim }
+        requires side { live.side ≤ 1 }
+        requires live { (size : ℕ) × IsValidLive head.limit size live }
+        ensures { result ≡ record { head = head; live = live; metric = metric; kept = None } }
+    {
+        View {
             head,
             live,
             metric,
             kept: None,
-        })
+        }
     }
 
     /// States what always holds of an opened file, for callers that hold a reference to one.

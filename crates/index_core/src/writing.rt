@@ -4,6 +4,7 @@ ghost use Rattle.outside_io.specs.Causes.{HasCause};
 ghost use Rattle.disk_model.specs.Disk.{LeavesOnly, EachImage};
 ghost use Rattle.page_store.specs.Staging.{pages_of};
 ghost use Rattle.shadow_root.specs.Commit.{IsBeforeOrAfter};
+ghost use Rattle.free_pages.specs.Keeping.{IsKept};
 ghost use Rattle.free_pages.specs.Commits.{AreWithin};
 ghost use Rattle.index_core.specs.Files.{StandsOn, nodes_on};
 ghost use Rattle.index_core.specs.Index.{AreSpare};
@@ -39,8 +40,8 @@ fn forget(kept: &mut Option<Kept>, staged: &Staged)
 impl<M: Metric> View<M> {
     // Commits `placed` for the file, and settles the free list `free`: its first `used` pages are taken, and it has room for the
     // pages that are left. What is kept of pages that are written anew is dropped before the first write.
-    // Clauses: what is asked of the caller (`stands`, `only`, `beside`, `within`, `room`, `placed`, `follows`); what a crash may leave
-    // (`moments`); what changes (`committed`); what stays (`is_known`); the cost (`reads`); the cause of an error (`cause`).
+    // Clauses: what is asked of the caller (`stands`, `only`, `beside`, `kept`, `within`, `room`, `placed`, `follows`); what a crash may
+    // leave (`moments`); what changes (`committed`); what stays (`is_known`); the cost (`reads`); the cause of an error (`cause`).
     pub(crate) fn write<D: Disk>(
         &mut self,
         disk: &mut D,
@@ -51,6 +52,7 @@ impl<M: Metric> View<M> {
         requires stands { StandsOn self.old (D.state disk.old) }
         requires only { IsTrue (D.state disk.old).is_known → LeavesOnly (D.state disk.old) (D.state disk.old).bytes }
         requires beside { IsTrue (D.state disk.old).is_known → AreSpare (nodes_on self.old (D.state disk.old)) self.old.live free.old }
+        requires kept { IsKept free.old }
         requires within { AreWithin self.old.live.pages free.old }
         requires room { length placed.now.left ≤ free.old.spare }
         requires placed { IsPlacedOn self.old free.old used placed.now }
@@ -64,7 +66,6 @@ impl<M: Metric> View<M> {
         ensures reads { (D.state disk.new).reads ≤ (D.state disk.old).reads + 1 }
         ensures cause { HasCause (D.state disk.old).faults (D.state disk.new).faults result }
     {
-        free.are_kept();
         forget(&mut self.kept, &placed.staged);
         commit(
             disk,

@@ -56,7 +56,7 @@ stop_by (page.Level p) old new d n head live is last cause passes = cause
 stop_by (page.Bad p f) old new d n head live is last cause passes = λ is_known.
     let told : IsTrue old.is_known = subst IsTrue (sym is.is_known) is_known in
     record {
-      stops = subst (λ (read : Read). (read p ≡ Err (page.Bad p f)) × NamesInside (nodes_of read) live p) is.read (cause.2 told);
+      stops = subst (λ (read : Read). (read p ≡ Err (page.Bad p f)) × NamesInside (nodes_of read) live p) is.read (cause.1 told);
       unsound = λ sound. passes told (mix_space head.kind head.dim) (sound_on old d head live is sound);
     }
 stop_by (page.Outside p) old new d n head live is last cause passes = λ is_known.

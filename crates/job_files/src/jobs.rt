@@ -10,7 +10,7 @@ ghost use Rattle.outside_io.specs.Bytes.{AppendsPrefix};
 ghost use Rattle.outside_io.specs.Causes.{Rose};
 ghost use Rattle.outside_io.specs.Sinks.{Tells};
 ghost use Rattle.node_page.specs.Heads.{IsValidHead};
-ghost use Rattle.node_page.specs.Opening.{OpensTo};
+ghost use Rattle.node_page.specs.Opening.{IsValidLive, OpensTo};
 ghost use Rattle.job_files.specs.Jobs.{Creates, Refuses, Audits, HasFault, IsPassing, IsAuditStatus};
 ghost use Rattle.job_files.specs.Reads.{ReadsOnce, each_page};
 ghost use Rattle.job_files.specs.Lines.{unopened_text, rejected_text, sound_text};
@@ -165,14 +165,16 @@ pub fn end_sound<K: Sink>(alloc: Global, audited: &Audited, out: &mut K) -> Stat
 
 /// Opens an index of version 2. Otherwise writes why the file is none, and returns the status: 5 where the disk failed, and 6
 /// where the file is no index of version 2. Nothing is changed.
-/// Clauses: the answer (`opens`, `version`, `head`, `some`, `pages`, `height`); what stays (`same`, `silent`); the cost (`reads`); the
-/// cause of an error (`refuses`); faults of the devices (`later`, `no_fault`, `written_later`).
+/// Clauses: the answer (`opens`, `version`, `head`, `side`, `live`, `some`, `pages`, `height`); what stays (`same`, `silent`); the cost
+/// (`reads`); the cause of an error (`refuses`); faults of the devices (`later`, `no_fault`, `written_later`).
 pub fn open_index<D: Disk, K: Sink>(disk: &mut D, out: &mut K) -> Result<(Head, Live), Status>
     ensures same { IsUnchanged (D.state disk.old) (D.state disk.new) }
     ensures opens { IfOk result (λ opened. IsTrue (D.state disk.old).is_known → OpensTo (D.state disk.old).bytes opened.0 opened.1) }
     ensures version { IfOk result (λ opened. opened.0.version ≡ 2) }
-    // The head is valid also where the disk does not tell its bytes.
+    // The head and the live slot are valid also where the disk does not tell its bytes.
     ensures head { IfOk result (λ opened. IsValidHead opened.0) }
+    ensures side { IfOk result (λ opened. opened.1.side ≤ 1) }
+    ensures live { IfOk result (λ opened. (size : ℕ) × IsValidLive opened.0.limit size opened.1) }
     ensures some { IfOk result (λ opened. 4 ≤ opened.1.pages) }
     ensures pages { IfOk result (λ opened. opened.1.pages ≤ 2 ^ 24) }
     ensures height { IfOk result (λ opened. opened.1.height ≤ 14) }

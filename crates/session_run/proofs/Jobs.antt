@@ -12,14 +12,10 @@ use Rattle.disk_model.specs.Disk.{DiskState, EachImage, IsUnchanged, MayLeave}
 use Rattle.disk_model.specs.Moments.{once, joined, started, weakened}
 use Rattle.node_page.specs.declared.head.Head.{Head}
 use Rattle.node_page.specs.Laws.{FaultIsNotOpen, OneLiveSlot}
-use Rattle.node_page.specs.Opening.{OpensTo, open_fault}
-use Rattle.node_page.specs.Opening.Unopened.{Short, NoHead, Unfinished, TwoRoots, BadSlot}
-use Rattle.shadow_root.specs.declared.faults.OpenFault.{OpenFault}
-use Rattle.shadow_root.specs.declared.faults.OpenFault.TheVariants as fault
+use Rattle.node_page.specs.Opening.{OpensTo}
 use Rattle.page_store.specs.Files.{IsSoundFile, nodes_in}
-use Rattle.index_core.specs.Causes.{HasReaderCause}
-use Rattle.job_files.specs.Jobs.{IsNoIndex, Refuses}
-use Rattle.job_files.proofs.Published.{no_index, rose_by_disk, no_index_unsound}
+use Rattle.job_files.specs.Jobs.{Refuses}
+use Rattle.job_files.proofs.Published.{no_index_unsound}
 use Rattle.tree_shape.specs.declared.live.Live.{Live}
 use Rattle.tree_shape.specs.Tree.{IsSoundTree}
 use Rattle.index_core.specs.Answers.{IsSoundOn}
@@ -28,7 +24,6 @@ use Rattle.index_core.specs.Files.{IsValidFile, nodes_on}
 use Rattle.index_core.specs.Index.{OpenIndex, StandsAlone}
 use Rattle.index_core.proofs.Published.{holds}
 use Rattle.session_run.proofs.Reading.{objects_on}
-use Rattle.job_files.specs.Lines.{not_index_text, unopened_name, unopened_text}
 use Rattle.rows_text.specs.declared.command.Command.{Command}
 use Rattle.rows_text.specs.Meaning.{State}
 use Rattle.rows_text.specs.Script.{script}
@@ -390,6 +385,17 @@ memory_ends_it disk0 disk1 out0 out1 log status is told = record {
   statuses = inr (inr (inr (inr (inl is))));
 }
 
+pub disk_ends_it : (disk0 disk1 : DiskState) (out0 out1 log : SinkState) (status : ℕ) → status ≡ 5 → Rose disk0.faults disk1.faults → Tells out0 out1 (codes "fault disk\n") → HasRefused disk0 disk1 out0 out1 log log status
+disk_ends_it disk0 disk1 out0 out1 log status is rose told = record {
+  output = λ e. absurd (omega (arith, is, e));
+  disk = λ e. rose;
+  not_index = λ e. absurd (omega (arith, is, e));
+  damaged = λ e. absurd (omega (arith, is, e));
+  lines = disk_told status out0 out1 is (line_alone out0 out1 (codes "fault disk\n") told);
+  index = λ these. absurd (unfinished status 5 is (λ e. omega (arith, e)) (λ e. omega (arith, e)) these);
+  statuses = inr (inr (inl is));
+}
+
 -- a session that is refused while it opens the index puts only a line
 pub memory_runs : (show : Bool) (asked : ℕ → List Command) (disk0 disk1 disk2 : DiskState) (out0 out1 log : SinkState) (status : ℕ) → IsUnchanged disk0 disk1 → EachImage disk1 disk2 (MayLeave disk1) → status ≡ 8 →
     Tells out0 out1 (codes "fault memory\n") → RunsAsked show asked disk0 disk2 out0 out1 log log status
@@ -397,81 +403,11 @@ memory_runs show asked disk0 disk1 disk2 out0 out1 log status same time eight to
     unread show asked head live disk0.bytes disk0 disk2 out0 out1 log (codes "fault memory\n") (Leaves head (state_in head live disk0.bytes) disk0 disk2) told (inl (refl, opening disk0 disk1 disk2 same time)) status
     (λ rest line. memory_ends (Rose out0.faults out1.faults) _ (asked head.dim) rest [] status eight line) (λ e. absurd (omega arith))
 
-module _ (faults : FaultIsNotOpen) (one : OneLiveSlot) (show : Bool) (asked : ℕ → List Command) (disk0 disk1 disk2 : DiskState) (out0 out1 log : SinkState) (dimension status : ℕ) (why : OpenFault) (opened : Head × Live)
-    (same : IsUnchanged disk0 disk1) (later : disk0.faults ≤ disk1.faults) (opens : IsTrue disk0.is_known → OpensTo disk0.bytes opened.0 opened.1) (version : opened.0.version ≡ 2) (dim : dimension ≡ opened.0.dim)
-    (cause : HasReaderCause dimension disk1 disk2 why) (five : status ≡ 5 → why ≡ fault.Disk) (six : status ≡ 6 → why ≢ fault.Disk) (line : Tells out0 out1 (unopened_text why)) (statuses : (status ≡ 5) ⊎ (status ≡ 6)) where
-  told : IsTrue disk0.is_known → IsTrue disk1.is_known
-  told is_known = rw same.same_known is_known
-
-  still : (P : List ℕ → Type 0) → P disk1.bytes → P disk0.bytes
-  still P p = subst P same.same_bytes p
-
-  -- bytes that open to an index of version 2 with such points are opened, unless the disk fails
-  never : IsTrue disk0.is_known → why ≢ fault.Disk → ⊥
-  never is_known other = elim cause [
-    | inl first ↦
-        let named = (no_index disk1 disk2 why other first).2 (told is_known) in
-        no_version (opens is_known) version (still (λ (b : List ℕ). IsNoIndex b (no_index disk1 disk2 why other first).0) named)
-    | inr rest ↦ elim rest [
-      | inl old ↦ let (h, l, is, v) = old.1 (told is_known) in
-          let e = one disk0.bytes opened.0 h opened.1 l (opens is_known) (still (λ (b : List ℕ). OpensTo b h l) is) in
-          absurd (omega (arith, ap (λ (x : Head). x.version) e.0, version, v))
-      | inr wide ↦ let (h, l, is, v) = wide.1 (told is_known) in
-          let e = one disk0.bytes opened.0 h opened.1 l (opens is_known) (still (λ (b : List ℕ). OpensTo b h l) is) in
-          v.1 (ap (λ (x : Head). x.dim) (sym e.0) ∙ sym dim)
-    ]
-  ]
-    where
-      no_version : {name : List ℕ} → OpensTo disk0.bytes opened.0 opened.1 → opened.0.version ≡ 2 → IsNoIndex disk0.bytes name → ⊥
-      no_version is v (inl (w, e, named)) = let none : open_fault disk0.bytes ≡ None = (faults disk0.bytes).1 (opened.0, opened.1, is) in cc
-      no_version is v (inr (h, l, other, old, named)) = let e = one disk0.bytes opened.0 h opened.1 l is other in omega (arith, ap (λ (x : Head). x.version) e.0, v, old)
-
-  pub unopened_runs : EachImage disk1 disk2 (MayLeave disk1) → RunsAsked show asked disk0 disk2 out0 out1 log log status
-  unopened_runs time is_known head live sound = elim statuses [
-    | inl is ↦
-        unread show asked head live disk0.bytes disk0 disk2 out0 out1 log (codes "fault disk\n") (Leaves head (state_in head live disk0.bytes) disk0 disk2)
-        (subst (λ (w : OpenFault). Tells out0 out1 (unopened_text w)) (five is) line) (inl (refl, opening disk0 disk1 disk2 same time)) status
-        (λ rest line. disk_ends (Rose out0.faults out1.faults) _ (asked head.dim) rest [] status is line) (λ e. absurd (omega arith))
-    | inr is ↦ absurd (never is_known (six is))
-  ]
-
-  pub unopened_ends : HasRefused disk0 disk2 out0 out1 log log status
-  unopened_ends = record {
-    output = λ e. elim statuses [ inl is ↦ absurd (omega arith) | inr is ↦ absurd (omega arith) ];
-    disk = λ is. rose_of (five is) cause;
-    not_index = λ is. (named why (six is), subst (Tells out0 out1) (text_of why (six is)) line, λ is_known. absurd (never is_known (six is)));
-    damaged = λ e. elim statuses [ inl is ↦ absurd (omega arith) | inr is ↦ absurd (omega arith) ];
-    lines = elim statuses [
-      | inl is ↦ disk_told status out0 out1 is (line_alone out0 out1 (codes "fault disk\n") (subst (λ (w : OpenFault). Tells out0 out1 (unopened_text w)) (five is) line))
-      | inr is ↦ none_told status out0 out1 (λ e. omega (arith, is, e)) (λ e. omega (arith, is, e)) (λ e. omega (arith, is, e)) (λ e. omega (arith, is, e))
-    ];
-    index = λ these. absurd (elim statuses [
-      | inl is ↦ unfinished status 5 is (λ e. omega (arith, e)) (λ e. omega (arith, e)) these
-      | inr is ↦ unfinished status 6 is (λ e. omega (arith, e)) (λ e. omega (arith, e)) these
-    ]);
-    statuses = elim statuses [ inl is ↦ inr (inr (inl is)) | inr is ↦ inr (inr (inr (inl is))) ];
-  }
-    where
-      rose_of : why ≡ fault.Disk → HasReaderCause dimension disk1 disk2 why → Rose disk0.faults disk2.faults
-      rose_of is (inl first) = rose_before _ _ _ later (rose_by_disk disk1 disk2 why is first)
-      rose_of is (inr (inl old)) = absurd (let e = sym is ∙ old.0 in cc)
-      rose_of is (inr (inr wide)) = absurd (let e = sym is ∙ wide.0 in cc)
-
-      named : (w : OpenFault) → w ≢ fault.Disk → List ℕ
-      named fault.Disk other = []
-      named fault.Short other = unopened_name Short
-      named (fault.Head f) other = unopened_name (NoHead f)
-      named fault.Unfinished other = unopened_name Unfinished
-      named fault.TwoRoots other = unopened_name TwoRoots
-      named fault.Slot other = unopened_name BadSlot
-
-      text_of : (w : OpenFault) (other : w ≢ fault.Disk) → unopened_text w ≡ not_index_text (named w other)
-      text_of fault.Disk other = absurd (other refl)
-      text_of fault.Short other = refl
-      text_of (fault.Head f) other = refl
-      text_of fault.Unfinished other = refl
-      text_of fault.TwoRoots other = refl
-      text_of fault.Slot other = refl
+pub disk_runs : (show : Bool) (asked : ℕ → List Command) (disk0 disk1 disk2 : DiskState) (out0 out1 log : SinkState) (status : ℕ) → IsUnchanged disk0 disk1 → EachImage disk1 disk2 (MayLeave disk1) → status ≡ 5 →
+    Tells out0 out1 (codes "fault disk\n") → RunsAsked show asked disk0 disk2 out0 out1 log log status
+disk_runs show asked disk0 disk1 disk2 out0 out1 log status same time five told is_known head live sound =
+    unread show asked head live disk0.bytes disk0 disk2 out0 out1 log (codes "fault disk\n") (Leaves head (state_in head live disk0.bytes) disk0 disk2) told (inl (refl, opening disk0 disk1 disk2 same time)) status
+    (λ rest line. disk_ends (Rose out0.faults out1.faults) _ (asked head.dim) rest [] status five line) (λ e. absurd (omega arith))
 
 -- the index that was opened is that of the file as it was before
 module _ {M : Type 0} (one : OneLiveSlot) (index : OpenIndex M) (opened : Head × Live) (disk0 disk1 disk2 : DiskState) (same : IsUnchanged disk0 disk1) (bytes_same : disk2.bytes ≡ disk1.bytes) (known_same : disk2.is_known ≡ disk1.is_known)
@@ -532,7 +468,7 @@ module _ {M : Type 0} (kind_of dim_of : M → ℕ) (one : OneLiveSlot) (show : B
       (said_before (λ dim. Unit {0}) (λ h l f. RunsOn (LeavesAll h (state_in h l f) disk2 disk3) show asked h l f disk3 out0 out1 log0 log1 status) head live is_known sound tt
       (λ told is_kind is_dim tree asks. run told is_kind is_dim tree))
 
-  pub reads_since : disk1.reads ≤ disk0.reads + 3 → disk2.reads ≤ disk1.reads + 3 →
+  pub reads_since : disk1.reads ≤ disk0.reads + 3 → disk2.reads ≡ disk1.reads →
       (status ≡ 0 → IsTrue disk2.is_known → kind_of index.file.metric ≡ index.file.head.kind → dim_of index.file.metric ≡ index.file.head.dim → IsSoundTree (space_of index.file.head) (nodes_on index.file disk2) index.file.live →
       AllByRecursion IsAsking (asked index.file.head.dim) → ReadsFew 0 show disk2 disk3 log0 log1) → ReadsAsked show asked disk0 disk3 log0 log1 status
   reads_since first second run zero is_known head live sound asks =

@@ -19,8 +19,8 @@ use bulk_load::Crew;
 use disk_model::Disk;
 use index_core::Index;
 use job_files::{
-    FAULT_DISK, FAULT_INPUT, FAULT_LONG, FAULT_MEMORY, MOST_INPUT, damaged_text, end_unopened,
-    end_with, open_index, space_of,
+    FAULT_DISK, FAULT_INPUT, FAULT_LONG, FAULT_MEMORY, MOST_INPUT, damaged_text, end_with,
+    open_index, space_of,
 };
 use metric_laws::Metric;
 use metric_mix::MixSpace;
@@ -122,13 +122,13 @@ pub fn run_requests<W: Crew<MixSpace>, S: Requests, D: Disk, K: Sink, T: Sink>(
 {
     fault_is_not_open();
     one_live_slot();
-    let (head, _) = match open_index(index, out) {
+    let (head, live) = match open_index(index, out) {
         Ok(opened) => opened,
         Err(status) => return status,
     };
-    let mut opened = match Index::open_write(index, space_of(&head)) {
+    let mut opened = match Index::of_opened(index, head, live, space_of(&head)) {
         Ok(opened) => opened,
-        Err(fault) => return end_unopened(fault, out),
+        Err(_) => return end_with(out, FAULT_DISK, 5),
     };
     opened.set_workers(workers);
     let Ok(()) = opened.use_cache(alloc, KEPT_NODES) else {

@@ -16,8 +16,8 @@ pub trait Requests: Drop {
 
     /// Returns the commands for points of `dimension` coordinates.
     fn read(self, alloc: Global, dimension: usize) -> Result<Vec<Command>, Memory>
-        requires some_words { 1 ≤ dimension }
-        requires few_words { dimension ≤ 64 }
+        requires some_coordinates { 1 ≤ dimension }
+        requires few_coordinates { dimension ≤ 64 }
         ensures commands { IfOk result (λ asked. asked.items ≡ commands self dimension) }
         ensures readable { IfOk result (λ asked. All (IsReadable dimension) asked.items) }
         ensures few { IfOk result (λ asked. length asked.items < 2 ^ 32) };

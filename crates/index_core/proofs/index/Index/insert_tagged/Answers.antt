@@ -75,7 +75,7 @@ pub returns-in-Err-place-clause-damage : goal.returns-in-Err-place-clause-damage
 returns-in-Err-place-clause-damage g c =
     let valid = subst (λ (i : OpenIndex g.row.M.Denot). IsValidFile (g.M.Metric.space i.file.metric).dimension i.file) c.self.view_is c.is_valid.ensures in
     let dimension = subst (λ (i : OpenIndex g.row.M.Denot). (g.M.Metric.space i.file.metric).dimension ≡ i.file.head.dim) (sym c.self-2.view_is)
-    (subst (λ (f : OpenFile g.row.M.Denot). (g.M.Metric.space f.metric).dimension ≡ f.head.dim) (sym c.take_free.ensures.reads.rest) valid.words_are) in
+    (subst (λ (f : OpenFile g.row.M.Denot). (g.M.Metric.space f.metric).dimension ≡ f.head.dim) (sym c.take_free.ensures.reads.rest) valid.dimension_is) in
     moved_blames c.args.self.now.file c.take_free.new.self.file (g.D.Disk.state c.args.disk.now) (g.D.Disk.state c.take_free.new.disk) c.in-Err-place.fault c.take_free.ensures.reads
     (subst (λ (i : OpenIndex g.row.M.Denot). BlamesDamage i.file (g.D.Disk.state c.take_free.new.disk) c.in-Err-place.fault) c.self-2.view_is
     (path_blames (g.M.Metric.space c.self-2.inside.view.metric) c.self-2.inside.view c.in-Ok.free (record { id = c.self-2.inside.view.live.count; tag = c.args.tag; point = c.args.p.now })

@@ -15,7 +15,7 @@ use Rattle.index_core.proofs.view.View.place.Goals as goal
 pub place-answer-requires-clause-numbers : goal.place-answer-requires-clause-numbers
 place-answer-requires-clause-numbers g c = λ κs within.
     subst (λ (f : OpenFile g.row.M.Denot). AreNumbers f.live.pages c.as_slice.result.now) (sym c.self.view_is)
-    (subst (AreNumbers c.args.self.now.live.pages) (sym (c.as_slice.ensures.value ∙ c.in_ok-numbers.ensures)) (free_numbers c.args.self.now.live.pages _ c.args.free.now c.are_kept.ensures c.requires.within))
+    (subst (AreNumbers c.args.self.now.live.pages) (sym (c.as_slice.ensures.value ∙ c.in_ok-numbers.ensures.pages)) (free_numbers c.args.self.now.live.pages _ c.args.free.now c.least.ensures.kept c.requires.within))
 
 pub place-answer-requires-clause-outside : goal.place-answer-requires-clause-outside
 place-answer-requires-clause-outside g c = λ κs within is_known sound.
@@ -24,7 +24,7 @@ place-answer-requires-clause-outside g c = λ κs within is_known sound.
     (subst (λ (h : Shelf). IsSoundTree (g.M.Metric.space c.new-ruler.result.metric) (nodes_of h.read) c.self.inside.live) c.lend-pages.ensures.shelf sound) in
     subst (λ (h : Shelf). AreOutside (nodes_of h.read) c.self.inside.live c.as_slice.result.now) (sym c.lend-pages.ensures.shelf)
     (subst (λ (f : OpenFile g.row.M.Denot). AreOutside (nodes_on c.args.self.now (g.D.Disk.state c.args.disk.now)) f.live c.as_slice.result.now) (sym c.self.view_is)
-    (subst (AreOutside (nodes_on c.args.self.now (g.D.Disk.state c.args.disk.now)) c.args.self.now.live) (sym (c.as_slice.ensures.value ∙ c.in_ok-numbers.ensures))
+    (subst (AreOutside (nodes_on c.args.self.now (g.D.Disk.state c.args.disk.now)) c.args.self.now.live) (sym (c.as_slice.ensures.value ∙ c.in_ok-numbers.ensures.pages))
     (free_outside (g.M.Metric.space c.new-ruler.result.metric) (nodes_on c.args.self.now (g.D.Disk.state c.args.disk.now)) c.args.self.now.live c.args.free.now _ (c.requires.beside told) is)))
 
 pub returns-in-Ok-clause-takes_place : goal.returns-in-Ok-clause-takes_place

@@ -14,13 +14,13 @@ pub commit-requires-clause-staged : goal.commit-requires-clause-staged
 commit-requires-clause-staged g c =
     let valid = subst (λ (f : OpenFile g.row.M.Denot). IsValidFile (g.M.Metric.space c.self.inside.metric).dimension f) c.self.view_is c.self.invariant in
     subst (λ (f : OpenFile g.row.M.Denot). IsStagedFor f.head.dim f.live c.args.placed.now.next c.args.placed.now.staged) (sym c.self.view_is)
-    (can_follow _ c.args.self.now c.args.free.now c.args.free.now.spare c.args.used c.args.placed.now valid c.are_kept.ensures c.requires.within c.requires.placed).1
+    (can_follow _ c.args.self.now c.args.free.now c.args.free.now.spare c.args.used c.args.placed.now valid c.requires.kept c.requires.within c.requires.placed).1
 
 pub commit-requires-clause-ready : goal.commit-requires-clause-ready
 commit-requires-clause-ready g c = λ is_known.
     let valid = subst (λ (f : OpenFile g.row.M.Denot). IsValidFile (g.M.Metric.space c.self.inside.metric).dimension f) c.self.view_is c.self.invariant in
     subst (λ (f : OpenFile g.row.M.Denot). IsReady f.head.dim f.live c.args.placed.now.next c.args.placed.now.staged (g.D.Disk.state c.args.disk.now)) (sym c.self.view_is)
-    (ready _ c.args.self.now c.args.free.now c.args.free.now.spare c.args.used c.args.placed.now valid c.are_kept.ensures c.requires.within c.requires.placed (g.D.Disk.state c.args.disk.now) c.requires.stands c.requires.only
+    (ready _ c.args.self.now c.args.free.now c.args.free.now.spare c.args.used c.args.placed.now valid c.requires.kept c.requires.within c.requires.placed (g.D.Disk.state c.args.disk.now) c.requires.stands c.requires.only
     c.requires.beside is_known)
 
 pub invariant_of-self : goal.invariant_of-self
@@ -37,7 +37,7 @@ invariant_of-self-2 g c =
     let is : record { head = c.self.inside.head; live = c.args.placed.now.next; metric = c.self.inside.metric; kept = c.forget.new.kept } ≡ record c.args.self.now { live = c.args.placed.now.next; kept = forgotten_of (pages_of c.args.placed.now.staged) c.args.self.now.kept } =
     ap (λ (k : Option Pairs). record { head = c.self.inside.head; live = c.args.placed.now.next; metric = c.self.inside.metric; kept = k }) c.forget.ensures
     ∙ ap (λ (f : OpenFile g.row.M.Denot). record f { live = c.args.placed.now.next; kept = forgotten_of (pages_of c.args.placed.now.staged) f.kept }) c.self.view_is in
-    subst (IsValidFile (g.M.Metric.space c.self.inside.metric).dimension) (sym is) (next_valid _ c.args.self.now c.args.free.now c.args.free.now.spare c.args.used c.args.placed.now valid c.are_kept.ensures c.requires.within c.requires.placed)
+    subst (IsValidFile (g.M.Metric.space c.self.inside.metric).dimension) (sym is) (next_valid _ c.args.self.now c.args.free.now c.args.free.now.spare c.args.used c.args.placed.now valid c.requires.kept c.requires.within c.requires.placed)
 
 pub returns-clause-committed : goal.returns-clause-committed
 returns-clause-committed g c =
@@ -53,6 +53,6 @@ returns-clause-committed g c =
     HasNext f.head.dim c.args.placed.now.next c.args.placed.now.staged (g.D.Disk.state c.commit.new.disk).bytes) c.self.view_is c.in_ok-commit.ensures.done in
     let settled = c.settle.ensures.settled
     ∙ ap (λ (l : List ℕ). after_commit c.args.used l c.args.placed.now.next.generation c.args.free.now) c.as_slice.ensures in
-    committed _ c.args.self.now c.args.free.now c.args.free.now.spare c.args.used c.args.placed.now valid c.are_kept.ensures c.requires.within c.requires.placed (g.D.Disk.state c.args.disk.now) (g.D.Disk.state c.commit.new.disk) c.requires.stands
+    committed _ c.args.self.now c.args.free.now c.args.free.now.spare c.args.used c.args.placed.now valid c.requires.kept c.requires.within c.requires.placed (g.D.Disk.state c.args.disk.now) (g.D.Disk.state c.commit.new.disk) c.requires.stands
     c.requires.only c.requires.beside c.requires.follows moments c.in_ok-commit.ensures.only done c.commit.ensures.is_known (g.met.D.Disk.read_is_image c.commit.new.disk) c.forgetting_keeps_agreement.ensures three _
     c.settle.new.self settled is
