@@ -13,7 +13,6 @@ node_fault_name node.Kind = codes "kind"
 node_fault_name node.Count = codes "count"
 node_fault_name node.Distance = codes "distance"
 node_fault_name node.Tail = codes "tail"
-node_fault_name node.Memory = codes "memory"
 
 abbrev pub head_fault_name : HeadFault → List ℕ
 head_fault_name head.Magic = codes "magic"

@@ -26,7 +26,6 @@ fn node_fault_name(fault: NodeFault) -> &'static [u8]
         NodeFault::Count => b"count",
         NodeFault::Distance => b"distance",
         NodeFault::Tail => b"tail",
-        NodeFault::Memory => b"memory",
     }
 }
 

@@ -53,7 +53,7 @@ fresh_kept pages spare newest free given = record { free_ascend = ascends_weaker
 pub passing : (old new : Shelf) (told : Result (List ℕ) PageFault) (tree : List ℕ) → told ≡ Ok tree → IsTrue old.is_known → (fault : PageFault) → IsWalkFault old new told fault → IsPassing fault
 passing old new told tree is is_known Disk why = tt
 passing old new told tree is is_known Memory why = tt
-passing old new told tree is is_known (Bad p f) why = let e = why.2 is_known in absurd (cc)
+passing old new told tree is is_known (Bad p f) why = let e = why.1 is_known in absurd (cc)
 passing old new told tree is is_known (Outside p) why = let e = why.1 is_known in absurd (cc)
 passing old new told tree is is_known (Repeats p) why = let e = why.1 is_known in absurd (cc)
 passing old new told tree is is_known (Level p) why = absurd why

@@ -203,9 +203,8 @@ module _ (old mid : Shelf) (t : Live) (count : ℕ) (flags : List Bool) (page : 
   way_refused now Disk unset cause = rose old.faults mid.faults now.faults way.holds.faults cause
   way_refused now Memory unset cause = tt
   way_refused now (Bad p fault) unset cause = (
-    cause.1,
-    subst (λ (n : ℕ). IsWithin n p) way.holds.pages (subst (IsWithin mid.pages) (sym cause.0) cause.2),
-    λ is_known. refused (Bad p fault) unset is_known (λ m. cause.3 m ∙ ap (λ (q : ℕ). Err (Bad q fault)) (sym cause.0)),
+    subst (λ (n : ℕ). IsWithin n p) way.holds.pages (subst (IsWithin mid.pages) (sym cause.0) cause.1),
+    λ is_known. refused (Bad p fault) unset is_known (λ m. cause.2 m ∙ ap (λ (q : ℕ). Err (Bad q fault)) (sym cause.0)),
   )
   way_refused now (Outside p) unset cause = (
     subst (λ (n : ℕ). is_within n p ≡ false) way.holds.pages (subst (λ (q : ℕ). is_within mid.pages q ≡ false) (sym cause.0) cause.1),

@@ -1,11 +1,10 @@
 -- The walk of a tree by its child numbers.
-use Rattle.std.specs.Prelude.{◌≡◌, ◌≢◌, ℕ, zero, suc, ◌-◌, ◌==◌, false, List, [], ◌∷◌, ◌++◌, filter, Result, Ok, Err, IsTrue, if◌then◌else◌}
+use Rattle.std.specs.Prelude.{◌≡◌, ℕ, zero, suc, ◌-◌, ◌==◌, false, List, [], ◌∷◌, ◌++◌, filter, Result, Ok, Err, IsTrue, if◌then◌else◌}
 use Rattle.std.specs.List.{range_with_len}
 use Rattle.outside_io.specs.Causes.{Rose}
 use Rattle.tree_shape.specs.declared.entry.Node.{Node}
 use Rattle.tree_shape.specs.declared.live.Live.{Live}
 use Rattle.tree_shape.specs.Tree.{times}
-use Rattle.node_page.specs.declared.node.NodeFault.TheVariants.{Memory as NodeMemory}
 use Rattle.page_store.specs.declared.pages.PageFault.{PageFault}
 use Rattle.page_store.specs.declared.pages.PageFault.TheVariants.{Disk, Bad, Outside, Memory, Repeats, Level}
 use Rattle.page_store.specs.Reading.{Read, IsWithin, is_within}
@@ -40,7 +39,7 @@ outside_pages pages tree = filter (λ page. times page tree == 0) (range_with_le
 abbrev pub IsWalkFault : Shelf → Shelf → Result (List ℕ) PageFault → PageFault → Type 0
 IsWalkFault old new told Disk = Rose old.faults new.faults
 IsWalkFault old new told Memory = Unit {0}
-IsWalkFault old new told (Bad page fault) = (fault ≢ NodeMemory) × IsWithin old.pages page × (IsTrue old.is_known → told ≡ Err (Bad page fault))
+IsWalkFault old new told (Bad page fault) = IsWithin old.pages page × (IsTrue old.is_known → told ≡ Err (Bad page fault))
 IsWalkFault old new told (Outside page) = (is_within old.pages page ≡ false) × (IsTrue old.is_known → told ≡ Err (Outside page))
 IsWalkFault old new told (Repeats page) = IsWithin old.pages page × (IsTrue old.is_known → told ≡ Err (Repeats page))
 IsWalkFault old new told (Level page) = ⊥

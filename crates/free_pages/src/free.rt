@@ -105,8 +105,8 @@ impl Free {
         self.free.pop_front()
     }
 
-    /// States that free and held pages are in order and apart, and that each held page is held by a pin.
-    pub fn are_kept(&self)
+    // States that free and held pages are in order and apart, and that each held page is held by a pin.
+    fn are_kept(&self)
         ensures { IsKept self.now }
     {
         let _free = &self.free;
@@ -128,7 +128,9 @@ impl Free {
 
     /// Returns the `n` least free pages in ascending order, or all where there are fewer. They stay free.
     pub fn least(&self, alloc: Global, n: usize) -> Result<Vec<u32>, Memory>
-        ensures { IfOk result (λ pages. pages.items ≡ take n self.now.free) }
+        ensures pages { IfOk result (λ pages. pages.items ≡ take n self.now.free) }
+        // Free and held pages are in order and apart, and each held page is held by a pin.
+        ensures kept { IsKept self.now }
     {
         let count = n.min(self.free.len());
         let mut least = Vec::with_capacity(alloc, count)?;

@@ -151,9 +151,8 @@ page_cause_kept : (old mid new : Shelf) (page : ℕ) (fault : PageFault) → Hol
 page_cause_kept old mid new page Disk same cause = let c = cause in omega (arith, same.faults, c)
 page_cause_kept old mid new page (Bad p fault) same cause = (
   cause.0,
-  cause.1,
-  subst (λ (n : ℕ). IsWithin n page) same.pages cause.2,
-  λ is_known. ap (λ (read : Read). read page) (sym same.read) ∙ cause.3 (same.is_known ∙ is_known),
+  subst (λ (n : ℕ). IsWithin n page) same.pages cause.1,
+  λ is_known. ap (λ (read : Read). read page) (sym same.read) ∙ cause.2 (same.is_known ∙ is_known),
 )
 page_cause_kept old mid new page (Outside p) same cause = (
   cause.0,

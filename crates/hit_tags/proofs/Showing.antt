@@ -162,7 +162,7 @@ passes s old new t rs fault is_known sound = at fault
     at : (f : PageFault) → HasTagsCause old new (t.root ∷ []) rs f → IsPassing f
     at Memory cause = tt
     at Disk cause = tt
-    at (Bad p f) cause = no_node cause.0 (Bad cause.0 f) (cause.2 is_known) (cause.1.3 is_known)
+    at (Bad p f) cause = no_node cause.0 (Bad cause.0 f) (cause.2 is_known) (cause.1.2 is_known)
     at (Outside p) cause = no_node cause.0 (Outside cause.0) (cause.2 is_known) (cause.1.2 is_known)
     at (Repeats p) cause = cause.1
     at (Level p) cause = cause.1

@@ -144,7 +144,7 @@ module _ (s : Space) (live : Live) (image : List ℕ) (c : Command) (asked : Que
       at : (f : PageFault) → f ≢ page.Memory → HasTagsCause (pages_asked s live image n) new (live.root ∷ []) found.log.records f → ⊥
       at page.Memory other cause = other refl
       at page.Disk other cause = let rose : Rose 0 new.faults = cause.1 in absurd (omega arith)
-      at (page.Bad p f) other cause = none cause.0 (page.Bad cause.0 f) (cause.2 refl) (cause.1.3 refl)
+      at (page.Bad p f) other cause = none cause.0 (page.Bad cause.0 f) (cause.2 refl) (cause.1.2 refl)
       at (page.Outside p) other cause = none cause.0 (page.Outside cause.0) (cause.2 refl) (cause.1.2 refl)
       at (page.Repeats p) other cause = cause.1
       at (page.Level p) other cause = cause.1

@@ -107,6 +107,6 @@ has_walked P shelf R is_known t nodes root height placed same staged w = record 
 -- the numbers of entries that a node may have
 pub fill_room : (s : Space) (most least dim : ℕ) → IsSpace s → s.dimension ≡ dim → most ≡ most_for dim → least ≡ least_for dim → (1 ≤ least) × (2 * least ≤ most)
 fill_room s most least dim space dimension is_most is_least =
-    let few = space.few_words in
+    let few = space.few_coordinates in
     let three = three_at_least dim (omega (arith, few, dimension)) in
     (omega (arith, three, is_least), omega (arith, is_most, is_least))

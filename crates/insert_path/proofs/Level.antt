@@ -33,7 +33,7 @@ fault_here s read p (suc h) page f is = ap (inner_fault (walk_fault s read p h) 
 
 pub cause_here : (s : Space) (p : List ℕ) (h page : ℕ) (old new : Shelf) (f : PageFault) → HasPageCause old new page f → HasWalkCause old new (walk_fault s old.read p h page) f
 cause_here s p h page old new Disk cause = cause
-cause_here s p h page old new (Bad q f) cause = (cause.1, λ is_known. fault_here s old.read p h page (Bad page f) (cause.3 is_known) ∙ ap (λ (n : ℕ). Some (Bad n f)) (sym cause.0))
+cause_here s p h page old new (Bad q f) cause = λ is_known. fault_here s old.read p h page (Bad page f) (cause.2 is_known) ∙ ap (λ (n : ℕ). Some (Bad n f)) (sym cause.0)
 cause_here s p h page old new (Outside q) cause = (ap (is_within old.pages) cause.0 ∙ cause.1, λ is_known. fault_here s old.read p h page (Outside page) (cause.2 is_known) ∙ ap (λ (n : ℕ). Some (Outside n)) (sym cause.0))
 cause_here s p h page old new Memory cause = tt
 cause_here s p h page old new (Repeats q) cause = absurd cause
@@ -77,7 +77,7 @@ fault_below s t read read' p h k page own node es fs ds place c ts rr hk oh inne
 
 pub cause_below : (old mid new : Shelf) (first first' : Option PageFault) (f : PageFault) → HoldsSame old mid → (IsTrue old.is_known → first ≡ first') → HasWalkCause mid new first' f → HasWalkCause old new first f
 cause_below old mid new first first' Disk same is cause = let m = same.faults in omega (arith, cause, m)
-cause_below old mid new first first' (Bad q f) same is cause = (cause.0, λ is_known. is is_known ∙ cause.1 (subst IsTrue (sym same.is_known) is_known))
+cause_below old mid new first first' (Bad q f) same is cause = λ is_known. is is_known ∙ cause (subst IsTrue (sym same.is_known) is_known)
 cause_below old mid new first first' (Outside q) same is cause = (ap (λ (n : ℕ). is_within n q) (sym same.pages) ∙ cause.0, λ is_known. is is_known ∙ cause.1 (subst IsTrue (sym same.is_known) is_known))
 cause_below old mid new first first' Memory same is cause = tt
 cause_below old mid new first first' (Repeats q) same is cause = cause

@@ -87,7 +87,7 @@ module _ (P : Plan) (shelf : Shelf) (is_known : IsTrue shelf.is_known) (t : Live
     pub new_ids : AreCounted (objects new next) (t.count + 1)
     new_ids id = ids_more id t.count P.object (objects (nodes_of shelf.read) t) (objects new next) named (sound.ids id)
         (ap (count_by (with_id id)) (sym (same_objects new next.height next.root)) ∙ ap (λ (u : Tall). count_by (with_id id) (objects_of u)) next_tree
-        ∙ insertion_adds_one P.space P.promote P.split P.object (tree_of (nodes_of shelf.read) t) (sound_has_entries P.space space.few_words (tree_of (nodes_of shelf.read) t) was_sound) (with_id id)
+        ∙ insertion_adds_one P.space P.promote P.split P.object (tree_of (nodes_of shelf.read) t) (sound_has_entries P.space space.few_coordinates (tree_of (nodes_of shelf.read) t) was_sound) (with_id id)
         ∙ ap (λ (os : List Object). count_by (with_id id) os + (if with_id id P.object then 1 else 0)) (same_objects (nodes_of shelf.read) t.height t.root))
 
     pub next_sound : IsSoundTree P.space new next

@@ -98,7 +98,7 @@ not_split s space promote split nodes t o is_point sound small high = cases (ins
 
     count : length (objects_of (placed s promote split o (tree_of nodes t))) ≡ t.count + 1
     count =
-        let more = insertion_adds_one s promote split o (tree_of nodes t) (sound_has_entries s space.few_words (tree_of nodes t) was) (λ o. true) in
+        let more = insertion_adds_one s promote split o (tree_of nodes t) (sound_has_entries s space.few_coordinates (tree_of nodes t) was) (λ o. true) in
         let a = long_count (objects_of (placed s promote split o (tree_of nodes t))) in
         let b = long_count (objects_of (tree_of nodes t)) in
         let c = counted in omega (arith, more, a, b, c)
@@ -106,14 +106,14 @@ not_split s space promote split nodes t o is_point sound small high = cases (ins
     cases : (g : Grown (Plain t.height)) → IsSoundTall s (new_root t.height g) → length (objects_of (new_root t.height g)) ≡ t.count + 1 → is_split g ≡ false
     cases (One x) sound count = refl
     cases (Two c d) sound count =
-        let many = plain_many s space.few_words (suc t.height) 2 (c ∷ d ∷ []) sound in
+        let many = plain_many s space.few_coordinates (suc t.height) 2 (c ∷ d ∷ []) sound in
         let high' = not_higher (suc t.height) (omega (arith, high)) in absurd (omega (arith, many, high', count, small))
 
 -- an insertion into a sound tree meets no fault
 pub sound_faultless : (s : Space) → IsSpace s → (promote split : ℕ) (read : Read) (t : Live) (o : Object) → ObjectFits s o → IsSoundTree s (nodes_of read) t → t.count < 2 ^ 24 → place_fault s (rules s promote split) read t o ≡ None
 sound_faultless s space promote split read t o is_point sound small =
     ap (λ (f : Option PageFault). or_level f ((t.height == 14) && is_split (inserted (rules s promote split) o t.height (tree_at (nodes_of read) t.height t.root))) t.root)
-    (sound_walk s space.few_words read o.point t.height (root_least t.height) None t.root (some t.height) sound.parts)
+    (sound_walk s space.few_coordinates read o.point t.height (root_least t.height) None t.root (some t.height) sound.parts)
     ∙ last (t.height == 14) refl
   where
     some : (h : ℕ) → 0 < h → 1 ≤ root_least h
@@ -126,7 +126,7 @@ sound_faultless s space promote split read t o is_point sound small =
 
 pub tree_undamaged : (old new : Shelf) (first : Option PageFault) (f : PlaceFault) → HasTreeCause old new first f → IsTrue old.is_known → first ≡ None → IsUndamaged f
 tree_undamaged old new first (Page Disk) cause is_known none = tt
-tree_undamaged old new first (Page (Bad page fault)) cause is_known none = absurd (let is = cause.1 is_known in cc)
+tree_undamaged old new first (Page (Bad page fault)) cause is_known none = absurd (let is = cause is_known in cc)
 tree_undamaged old new first (Page (Outside page)) cause is_known none = absurd (let is = cause.1 is_known in cc)
 tree_undamaged old new first (Page Memory) cause is_known none = cause
 tree_undamaged old new first (Page (Repeats page)) cause is_known none = cause

@@ -1,5 +1,5 @@
 -- Why a walk of an insertion stops, and what it asks of the pages.
-use Rattle.std.specs.Prelude.{◌≡◌, ◌≢◌, ℕ, ◌+◌, ◌-◌, ◌^◌, ◌<◌, ◌≤◌, false, List, length, IsTrue, Option, Some, None}
+use Rattle.std.specs.Prelude.{◌≡◌, ℕ, ◌+◌, ◌-◌, ◌^◌, ◌<◌, ◌≤◌, false, List, length, IsTrue, Option, Some, None}
 use Rattle.metric_laws.specs.Space.{Space}
 use Rattle.tree_shape.specs.declared.live.Live.{Live}
 use Rattle.tree_shape.specs.Plain.{Object, tree_of}
@@ -8,7 +8,6 @@ use Rattle.insert_path.specs.declared.faults.PlaceFault.{PlaceFault}
 use Rattle.insert_path.specs.declared.faults.PlaceFault.TheVariants.{Page, Full, NoRoom, Worn, Memory as NoMemory}
 use Rattle.insert_path.specs.Placing.{place_fault, fresh_of}
 use Rattle.outside_io.specs.Causes.{Rose}
-use Rattle.node_page.specs.declared.node.NodeFault.TheVariants.{Memory as NodeMemory}
 use Rattle.page_store.specs.declared.pages.PageFault.{PageFault}
 use Rattle.page_store.specs.declared.pages.PageFault.TheVariants.{Disk, Bad, Outside, Memory, Repeats, Level}
 use Rattle.page_store.specs.Reading.{is_within, nodes_of}
@@ -23,7 +22,7 @@ pub record HasAsked (most : ℕ) (old new : Shelf) : Type 0 where
 -- why a walk stops, where `first` is the first fault on its pages: the disk failed, memory ran out, or the fault is `first`
 abbrev pub HasWalkCause : Shelf → Shelf → Option PageFault → PageFault → Type 0
 HasWalkCause old new first Disk = Rose old.faults new.faults
-HasWalkCause old new first (Bad page fault) = (fault ≢ NodeMemory) × (IsTrue old.is_known → first ≡ Some (Bad page fault))
+HasWalkCause old new first (Bad page fault) = IsTrue old.is_known → first ≡ Some (Bad page fault)
 HasWalkCause old new first (Outside page) = (is_within old.pages page ≡ false) × (IsTrue old.is_known → first ≡ Some (Outside page))
 HasWalkCause old new first Memory = Unit {0}
 HasWalkCause old new first (Repeats page) = ⊥

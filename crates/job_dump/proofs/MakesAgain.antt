@@ -174,7 +174,7 @@ dumps_make_again spaces head live file rows bytes sound has =
     let limit = sound.opens.valid.count in
     let top = limit_small head.limit valid.limit in
     ap (λ (r : List Row). (after (setting_of head) nothing_yet (script head.dim (script_text r))).objects) has.rows_are
-    ∙ script_makes (setting_of head) made space.some_words (rows_fit s space os live.count has.once fit tags 0 live.count (omega arith))
+    ∙ script_makes (setting_of head) made space.some_coordinates (rows_fit s space os live.count has.once fit tags 0 live.count (omega arith))
     (points_fit s space os live.count has.once fit tags 0 live.count (omega arith)) (omega arith) (omega arith)
     ∙ (λ i. record { points = points_of_rows os 0 live.count i; tags = tags_of_rows os 0 live.count i })
     ∙ ap (objects_by_id live.count) same

@@ -29,7 +29,7 @@ notes_more nodes numbers opened page node is notes =
 pub page_cause : (live : Live) (old new : Shelf) (fault : PageFault) → HasTourCause live old new fault → HasCause live old new (dump.Page fault)
 page_cause live old new page.Disk cause = cause
 page_cause live old new page.Memory cause = tt
-page_cause live old new (page.Bad p f) cause = λ is_known. record { is = cause.2 is_known; unsound = λ s sound. tour_passes s live old new (page.Bad p f) cause is_known sound }
+page_cause live old new (page.Bad p f) cause = λ is_known. record { is = cause.1 is_known; unsound = λ s sound. tour_passes s live old new (page.Bad p f) cause is_known sound }
 page_cause live old new (page.Outside p) cause = λ is_known. record { is = cause.1 is_known; unsound = λ s sound. tour_passes s live old new (page.Outside p) cause is_known sound }
 page_cause live old new (page.Repeats p) cause = λ is_known. record { is = cause.1 is_known; unsound = λ s sound. tour_passes s live old new (page.Repeats p) cause is_known sound }
 page_cause live old new (page.Level p) cause = absurd cause

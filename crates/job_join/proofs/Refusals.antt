@@ -27,7 +27,7 @@ pub record IsOf (shelf : Shelf) (disk : DiskState) (tree : Tree) : Type 0 where
 side_damage : (tree : Tree) (old new : Shelf) (fault : PageFault) → old.read ≡ read_of tree → IsTrue old.is_known → fault ≢ pages.Disk → HasSideCause tree.live old new fault → IsDamaged tree fault
 side_damage tree old new pages.Disk is is_known other cause = absurd (other refl)
 side_damage tree old new (pages.Bad page f) is is_known other cause =
-    subst (λ (read : Read). (read page ≡ Err (pages.Bad page f)) × NamesInside (nodes_of read) tree.live page) is (cause.2 is_known)
+    subst (λ (read : Read). (read page ≡ Err (pages.Bad page f)) × NamesInside (nodes_of read) tree.live page) is (cause.1 is_known)
 side_damage tree old new (pages.Outside page) is is_known other cause =
     subst (λ (read : Read). (read page ≡ Err (pages.Outside page)) × NamesInside (nodes_of read) tree.live page) is (cause.1 is_known)
 side_damage tree old new (pages.Repeats page) is is_known other cause =

@@ -20,7 +20,7 @@ module _ (one_course : TourHasOneCourse) (live : Live) (old new : Shelf) (is_kno
   pub untoured : (fault : PageFault) → HasTourCause live old new fault → (IsPassing fault → ⊥) → ⊥
   untoured Disk cause not_passing = not_passing tt
   untoured Memory cause not_passing = not_passing tt
-  untoured (Bad page fault) cause not_passing = no_node page (Bad page fault) (cause.2 is_known)
+  untoured (Bad page fault) cause not_passing = no_node page (Bad page fault) (cause.1 is_known)
   untoured (Outside page) cause not_passing = no_node page (Outside page) (cause.1 is_known)
   untoured (Repeats page) cause not_passing =
       let low = ((one_course (nodes_of old.read) live.root live.pages page (cause.1 is_known)).1 live.pages toured).0 in

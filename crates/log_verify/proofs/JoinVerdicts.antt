@@ -81,8 +81,8 @@ pub passing : (l l2 r r2 : Shelf) (v : JoinVerdict) (F : Type 0) → HasJoinCaus
 passing l l2 r r2 Memory F cause x y never = tt
 passing l l2 r r2 (Page false pages.Disk) F cause x y never = tt
 passing l l2 r r2 (Page true pages.Disk) F cause x y never = tt
-passing l l2 r r2 (Page false (pages.Bad page fault)) F cause x y never = never (cause.2 x y)
-passing l l2 r r2 (Page true (pages.Bad page fault)) F cause x y never = never (cause.2 y x)
+passing l l2 r r2 (Page false (pages.Bad page fault)) F cause x y never = never (cause.1 x y)
+passing l l2 r r2 (Page true (pages.Bad page fault)) F cause x y never = never (cause.1 y x)
 passing l l2 r r2 (Page false (pages.Outside page)) F cause x y never = never (cause.1 x y)
 passing l l2 r r2 (Page true (pages.Outside page)) F cause x y never = never (cause.1 y x)
 passing l l2 r r2 (Page false pages.Memory) F cause x y never = cause

@@ -75,7 +75,7 @@ sound_faults s read live log v wise fault = (let none = none_from_sound s read l
 pub passing : (old new : Shelf) (v : Verdict) (F : Type 0) → HasCause old new v F → IsTrue old.is_known → (F → ⊥) → IsPassing v
 passing old new Memory F cause is_known never = tt
 passing old new (Page pages.Disk) F cause is_known never = tt
-passing old new (Page (pages.Bad page fault)) F cause is_known never = never (cause.2 is_known)
+passing old new (Page (pages.Bad page fault)) F cause is_known never = never (cause.1 is_known)
 passing old new (Page (pages.Outside page)) F cause is_known never = never (cause.1 is_known)
 passing old new (Page pages.Memory) F cause is_known never = cause
 passing old new (Page (pages.Repeats page)) F cause is_known never = cause

@@ -22,7 +22,7 @@ use Rattle.log_verify.proofs.Counting.{count_up-add}
 pub refusal_kept : (old mid new : Shelf) (fault : PageFault) (F G : Type 0) → HoldsSame old mid → (IsTrue old.is_known → F → G) → HasRefusal mid new fault F → HasRefusal old new fault G
 refusal_kept old mid new pages.Disk F G same implies rose = omega (arith, same.faults, rose)
 refusal_kept old mid new (pages.Bad page fault) F G same implies cause =
-    (cause.0, subst (λ (n : ℕ). IsWithin n page) same.pages cause.1, λ is_known. implies is_known (cause.2 (same.is_known ∙ is_known)))
+    (subst (λ (n : ℕ). IsWithin n page) same.pages cause.0, λ is_known. implies is_known (cause.1 (same.is_known ∙ is_known)))
 refusal_kept old mid new (pages.Outside page) F G same implies cause =
     (ap (λ (n : ℕ). is_within n page) (sym same.pages) ∙ cause.0, λ is_known. implies is_known (cause.1 (same.is_known ∙ is_known)))
 refusal_kept old mid new pages.Memory F G same implies cause = cause

@@ -1,7 +1,6 @@
 -- Why a verdict is given, and what it cost.
-use Rattle.std.specs.Prelude.{◌≡◌, ◌≢◌, ℕ, ◌+◌, ◌≤◌, Bool, true, false, IsTrue, Err}
+use Rattle.std.specs.Prelude.{◌≡◌, ℕ, ◌+◌, ◌≤◌, Bool, true, false, IsTrue, Err}
 use Rattle.outside_io.specs.Causes.{Rose}
-use Rattle.node_page.specs.declared.node.NodeFault.TheVariants.{Memory as NodeMemory}
 use Rattle.page_store.specs.declared.pages.PageFault.{PageFault}
 use Rattle.page_store.specs.declared.pages.PageFault.TheVariants as pages
 use Rattle.page_store.specs.Reading.{IsWithin, is_within}
@@ -18,7 +17,7 @@ use Rattle.log_verify.specs.declared.faults.Verdict.TheVariants.{Page, Memory}
 -- log has this fault. `Memory` is a verdict of its own
 abbrev pub HasRefusal : Shelf → Shelf → PageFault → Type 0 → Type 0
 HasRefusal old new pages.Disk Fault = Rose old.faults new.faults
-HasRefusal old new (pages.Bad page fault) Fault = (fault ≢ NodeMemory) × IsWithin old.pages page × (IsTrue old.is_known → Fault)
+HasRefusal old new (pages.Bad page fault) Fault = IsWithin old.pages page × (IsTrue old.is_known → Fault)
 HasRefusal old new (pages.Outside page) Fault = (is_within old.pages page ≡ false) × (IsTrue old.is_known → Fault)
 HasRefusal old new pages.Memory Fault = ⊥
 HasRefusal old new (pages.Repeats page) Fault = ⊥

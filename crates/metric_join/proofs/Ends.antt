@@ -152,7 +152,7 @@ right_refused l r left0 left1 right0 right1 (pages.Level p) walked cause = (caus
 -- the walk of pairs is refused
 side_refused : (live : Live) (old mid new : Shelf) (fault : PageFault) → HoldsSame old mid → IsWalked live old mid 0 → HasSideStop live mid new fault → HasSideCause live old new fault
 side_refused live old mid new pages.Disk holds walked stop = (let l = holds.faults in let c = stop in omega arith)
-side_refused live old mid new (pages.Bad p f) holds walked stop = (stop.0, subst (λ (n : ℕ). IsWithin n p) holds.pages stop.1, λ is_known. absurd (stop.2 (rw holds.is_known is_known)))
+side_refused live old mid new (pages.Bad p f) holds walked stop = (subst (λ (n : ℕ). IsWithin n p) holds.pages stop.0, λ is_known. absurd (stop.1 (rw holds.is_known is_known)))
 side_refused live old mid new (pages.Outside p) holds walked stop = (subst (λ (n : ℕ). is_within n p ≡ false) holds.pages stop.0, λ is_known. absurd (stop.1 (rw holds.is_known is_known)))
 side_refused live old mid new pages.Memory holds walked stop = absurd stop
 side_refused live old mid new (pages.Repeats p) holds walked stop =

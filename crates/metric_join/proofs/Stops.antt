@@ -33,9 +33,8 @@ module _ (live : Live) (old now next : Shelf) (page room asked : ℕ) (holds : H
   side_stop : (fault : PageFault) → (fault ≡ Memory → ⊥) → HasStop room now next page fault → HasSideStop live old next fault
   side_stop Disk passes stop = (let l = holds.faults in let c = stop in omega arith)
   side_stop (Bad p fault) passes stop = (
-    stop.1,
-    subst (λ (n : ℕ). IsWithin n p) holds.pages (subst (λ (k : ℕ). IsWithin now.pages k) (sym stop.0) stop.2),
-    λ is_known. no_fault (Bad page fault) (stop.3 (rw holds.is_known is_known)) is_known,
+    subst (λ (n : ℕ). IsWithin n p) holds.pages (subst (λ (k : ℕ). IsWithin now.pages k) (sym stop.0) stop.1),
+    λ is_known. no_fault (Bad page fault) (stop.2 (rw holds.is_known is_known)) is_known,
   )
   side_stop (Outside p) passes stop = (
     subst (λ (n : ℕ). is_within n p ≡ false) holds.pages (subst (λ (k : ℕ). is_within now.pages k ≡ false) (sym stop.0) stop.1),

@@ -1,5 +1,5 @@
 -- The steps of the join's walk.
-use Rattle.std.specs.Prelude.{◌≡◌, ◌≢◌, ℕ, ◌+◌, ◌-◌, ◌^◌, ◌≤◌, Bool, true, false, List, [], ◌∷◌, ◌++◌, map, length, IsTrue, if◌then◌else◌}
+use Rattle.std.specs.Prelude.{◌≡◌, ℕ, ◌+◌, ◌-◌, ◌^◌, ◌≤◌, Bool, true, false, List, [], ◌∷◌, ◌++◌, map, length, IsTrue, if◌then◌else◌}
 use Rattle.std.specs.List.{AllByRecursion}
 use Rattle.metric_laws.specs.Counts.{next_count, count_up, CountsUpTo}
 use Rattle.scan_model.specs.declared.hit.Pair.{Pair}
@@ -8,7 +8,6 @@ use Rattle.tree_shape.specs.declared.entry.Node.{Node}
 use Rattle.page_store.specs.declared.pages.PageFault.{PageFault}
 use Rattle.page_store.specs.declared.pages.PageFault.TheVariants as pages
 use Rattle.outside_io.specs.Causes.{Rose}
-use Rattle.node_page.specs.declared.node.NodeFault.TheVariants.{Memory as NodeMemory}
 use Rattle.page_store.specs.Reading.{IsWithin, is_within, nodes_of}
 use Rattle.page_store.specs.Shelf.{Shelf, HoldsSame, IsNodeOf, HasPageCause}
 use Rattle.log_model.specs.declared.marks.Mark.{Mark}
@@ -132,7 +131,7 @@ CountsMarks used used2 old new = (n : ℕ) × (measured_by old + n ≤ measured_
 -- walk was whole
 abbrev pub HasSideStop : Live → Shelf → Shelf → PageFault → Type 0
 HasSideStop live old new pages.Disk = Rose old.faults new.faults
-HasSideStop live old new (pages.Bad page fault) = (fault ≢ NodeMemory) × IsWithin old.pages page × (IsTrue old.is_known → ⊥)
+HasSideStop live old new (pages.Bad page fault) = IsWithin old.pages page × (IsTrue old.is_known → ⊥)
 HasSideStop live old new (pages.Outside page) = (is_within old.pages page ≡ false) × (IsTrue old.is_known → ⊥)
 HasSideStop live old new (pages.Repeats page) = ((asked : ℕ) × (live.pages ≤ asked) × (new.asked ≡ count_up old.asked asked)) × (IsTrue old.is_known → ⊥)
 HasSideStop live old new pages.Memory = ⊥

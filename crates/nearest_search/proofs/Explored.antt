@@ -212,12 +212,11 @@ module _ (s : Space) (axioms : IsSpace s) (old : Shelf) (live : Live) (q : List 
     pub explore_cause : (new : Shelf) (fault : PageFault) → HasPageCause now new next.page fault → HasNearestCause live old new fault
     explore_cause new Disk cause = (let l = before.same.faults in let c = cause in omega arith)
     explore_cause new (Bad page fault) cause = (
-      cause.1,
-      subst (λ (p : ℕ). IsWithin p page) before.same.pages (subst (λ (p : ℕ). IsWithin now.pages p) (sym cause.0) cause.2),
+      subst (λ (p : ℕ). IsWithin p page) before.same.pages (subst (λ (p : ℕ). IsWithin now.pages p) (sym cause.0) cause.1),
       λ is_known. (
         subst (λ (p : ℕ). old.read p ≡ Err (Bad page fault)) (sym cause.0)
             (subst (λ (p : ℕ). old.read next.page ≡ Err (Bad p fault)) (sym cause.0)
-            (ap (λ (r : Read). r next.page) (sym before.same.read) ∙ cause.3 (rw before.same.is_known is_known))),
+            (ap (λ (r : Read). r next.page) (sym before.same.read) ∙ cause.2 (rw before.same.is_known is_known))),
         subst (λ (p : ℕ). IsReached (nodes_of old.read) live.root p) (sym cause.0) (next_reached is_known),
       ),
     )
@@ -256,7 +255,7 @@ module _ (s : Space) (axioms : IsSpace s) (old : Shelf) (live : Live) (q : List 
     pub explore_passes : (new : Shelf) (fault : PageFault) → HasPageCause now new next.page fault → IsTrue old.is_known → IsSoundTree s (nodes_of old.read) live → IsPassing fault
     explore_passes new Disk cause is_known sound = tt
     explore_passes new Memory cause is_known sound = tt
-    explore_passes new (Bad page fault) cause is_known sound = absurd (no_node page (Bad page fault) cause.0 (((explore_cause new (Bad page fault) cause).2 is_known).0) is_known sound)
+    explore_passes new (Bad page fault) cause is_known sound = absurd (no_node page (Bad page fault) cause.0 (((explore_cause new (Bad page fault) cause).1 is_known).0) is_known sound)
     explore_passes new (Outside page) cause is_known sound = absurd (no_node page (Outside page) cause.0 (((explore_cause new (Outside page) cause).1 is_known).0) is_known sound)
     explore_passes new (Repeats page) cause is_known sound = absurd cause
     explore_passes new (Level page) cause is_known sound = absurd cause
@@ -280,7 +279,7 @@ module _ (s : Space) (axioms : IsSpace s) (old : Shelf) (live : Live) (q : List 
         root_is = root;
         query_is = query;
         valid = valid_log found.log hits
-            (subst IsValidQuery (sym query) (record { some = rw (axioms.long q q_fits) axioms.some_words; few = rw (axioms.long q q_fits) axioms.few_words }, some))
+            (subst IsValidQuery (sym query) (record { some = rw (axioms.long q q_fits) axioms.some_coordinates; few = rw (axioms.long q q_fits) axioms.few_coordinates }, some))
             (rw query answers) (omega arith) (rw are (omega arith)) (rw are logged.few_marks);
       }
 

@@ -1,5 +1,5 @@
 -- What a search for the nearest objects explores, what it answers, and why it may refuse.
-use Rattle.std.specs.Prelude.{◌≡◌, ◌≢◌, ℕ, ◌+◌, ◌*◌, ◌≤◌, ◌<◌, ◌⊎◌, false, List, [], ◌∷◌, length, map, IsTrue, None, Err}
+use Rattle.std.specs.Prelude.{◌≡◌, ℕ, ◌+◌, ◌*◌, ◌≤◌, ◌<◌, ◌⊎◌, false, List, [], ◌∷◌, length, map, IsTrue, None, Err}
 use Rattle.metric_laws.specs.Space.{Space}
 use Rattle.metric_laws.specs.Lists.{IsIn}
 use Rattle.outside_io.specs.Causes.{Rose}
@@ -9,7 +9,6 @@ use Rattle.scan_model.specs.Scan.{nearest_hits}
 use Rattle.tree_shape.specs.declared.live.Live.{Live}
 use Rattle.tree_shape.specs.declared.entry.InnerEntry.{InnerEntry}
 use Rattle.tree_shape.specs.Tree.{Nodes, IsSoundTree, points_by_id, inner_entries}
-use Rattle.node_page.specs.declared.node.NodeFault.TheVariants.{Memory as NodeMemory}
 use Rattle.page_store.specs.declared.pages.PageFault.{PageFault}
 use Rattle.page_store.specs.declared.pages.PageFault.TheVariants.{Disk, Bad, Outside, Memory, Repeats, Level}
 use Rattle.page_store.specs.Reading.{IsWithin, is_within, nodes_of}
@@ -73,7 +72,7 @@ abbrev pub HasNearestCause : Live → Shelf → Shelf → PageFault → Type 0
 HasNearestCause live old new Disk = Rose old.faults new.faults
 HasNearestCause live old new Memory = Unit {0}
 HasNearestCause live old new (Bad page fault) =
-    (fault ≢ NodeMemory) × IsWithin old.pages page × (IsTrue old.is_known → (old.read page ≡ Err (Bad page fault)) × IsReached (nodes_of old.read) live.root page)
+    IsWithin old.pages page × (IsTrue old.is_known → (old.read page ≡ Err (Bad page fault)) × IsReached (nodes_of old.read) live.root page)
 HasNearestCause live old new (Outside page) =
     (is_within old.pages page ≡ false) × (IsTrue old.is_known → (old.read page ≡ Err (Outside page)) × IsReached (nodes_of old.read) live.root page)
 HasNearestCause live old new (Repeats page) =

@@ -13,7 +13,7 @@ use Rattle.node_page.specs.declared.node.Version.TheVariants.{First, Second}
 use Rattle.node_page.specs.Bytes.{number_at, are_zero}
 use Rattle.node_page.specs.declared.node.Version.{Version}
 use Rattle.node_page.specs.declared.node.NodeFault.{NodeFault}
-use Rattle.node_page.specs.declared.node.NodeFault.TheVariants.{Kind, Count, Distance, Tail, Memory}
+use Rattle.node_page.specs.declared.node.NodeFault.TheVariants.{Kind, Count, Distance, Tail}
 use Rattle.node_page.specs.Nodes.{firsts, all_of, parent_place, leaf_in, inner_at, place_of, place_in, count_of, HasCount, SpellsIn, IsValidNode, near_at, is_count, are_near, is_rest_zero, fault_in, node_in}
 use Rattle.node_page.proofs.Rest.{zero_by_test, test_by_zero}
 use Rattle.node_page.proofs.SlotLaws.{both}
@@ -236,20 +236,6 @@ node_is version dim page (Inner level es) (told, low, high, has, some, are, near
     let not_leaf : (slice_index page 0 == 0) ≡ false = grind (arith, nat_tests, told, low) in
     ap (λ (b : Bool). if b then Leaf (leaves version dim page (count_of page)) else Inner (slice_index page 0) (inners dim page (count_of page))) not_leaf
     ∙ ap (λ (n : ℕ). Inner (slice_index page 0) (inners dim page n)) has.told ∙ ap (λ (n : ℕ). Inner n (inners dim page (length es))) told ∙ ap (Inner level) (sym are)
-
--- a lack of memory is not a fault of a page
-pub never_memory : (version : Version) (dim : ℕ) (page : List ℕ) (fault : NodeFault) → fault_in version dim page ≡ Some fault → fault ≡ Memory → ⊥
-unfolding fault_in
-never_memory version dim page fault is memory =
-    never (nat_le (slice_index page 0) 14) (is_count dim (slice_index page 0 == 0) (count_of page)) (are_near version dim (slice_index page 0 == 0) page (count_of page)) (is_rest_zero version dim (slice_index page 0 == 0) page (count_of page))
-    (is ∙ ap Some memory)
-  where
-    never : (a b c d : Bool) → first_of a b c d ≡ Some Memory → ⊥
-    never false b c d is = cc
-    never true false c d is = cc
-    never true true false d is = cc
-    never true true true false is = cc
-    never true true true true is = cc
 
 -- a page with no fault has at most as many entries as it may
 pub few_by_none : (version : Version) (dim : ℕ) (page : List ℕ) → fault_in version dim page ≡ None → count_of page ≤ most_for dim

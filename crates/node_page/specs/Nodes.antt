@@ -13,6 +13,8 @@ use Rattle.node_page.specs.declared.node.Version.{Version}
 use Rattle.node_page.specs.declared.node.Version.TheVariants.{First, Second}
 use Rattle.node_page.specs.declared.node.NodeFault.{NodeFault}
 use Rattle.node_page.specs.declared.node.NodeFault.TheVariants.{Kind, Count, Distance, Tail}
+use Rattle.node_page.specs.declared.node.Unread.{Unread}
+use Rattle.node_page.specs.declared.node.Unread.TheVariants.{NoNode, Memory}
 
 -- whether the test f holds at 0, 1 and so on, n in all
 unfoldable pub all_of : (ℕ → Bool) → ℕ → Bool
@@ -123,6 +125,11 @@ fault_in version dim page =
     else if not (are_near version dim (slice_index page 0 == 0) page (count_of page)) then Some Distance
     else if not (is_rest_zero version dim (slice_index page 0 == 0) page (count_of page)) then Some Tail
     else None
+
+-- why no node was read from a page: it has this first fault, or it has none and memory ran out
+abbrev pub IsUnread : Version → ℕ → List ℕ → Unread → Type 0
+IsUnread version dim page (NoNode fault) = fault_in version dim page ≡ Some fault
+IsUnread version dim page Memory = fault_in version dim page ≡ None
 
 -- the node of a page that has no fault
 unfoldable pub node_in : Version → ℕ → List ℕ → Node

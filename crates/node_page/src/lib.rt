@@ -13,6 +13,6 @@ mod writing;
 pub use bytes::clear;
 pub use head::{Head, HeadFault, decode_head, encode_head};
 pub use live::{is_valid_live, live_at};
-pub use node::{NodeFault, Version, decode_node};
+pub use node::{NodeFault, Unread, Version, decode_node};
 pub use slot::{Gate, Slot, decode_slot, encode_slot, read_gate};
 pub use writing::encode_node;

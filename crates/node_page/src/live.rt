@@ -19,10 +19,11 @@ pub fn live_at(side: u8, slot: &Slot) -> Live
     }
 }
 
-// Returns whether `live` keeps the bounds, as the definition tests them.
-#[tactic(auto, unfolding(crate::specs::Opening::is_valid_live))]
-fn keeps_bounds(limit: u32, size: u64, live: &Live) -> bool
-    ensures { result ≡ is_valid_live limit size live.now }
+/// Returns whether `live` keeps the bounds of a file of `size` bytes whose head has the limit `limit`.
+#[tactic(auto, unfolding(crate::specs::Opening::is_valid_live), using(crate::proofs::Opened::valid_by_test, crate::proofs::Opened::test_by_valid))]
+pub fn is_valid_live(limit: u32, size: u64, live: &Live) -> bool
+    ensures value { result ≡ is_valid_live limit size live.now }
+    ensures bounds { IsTrue result ↔ IsValidLive limit size live.now }
 {
     live.generation >= 1
         && live.generation <= LAST_GENERATION
@@ -33,13 +34,4 @@ fn keeps_bounds(limit: u32, size: u64, live: &Live) -> bool
         && live.pages >= 4
         && live.pages <= MOST_PAGES
         && u64::from(live.pages) * 4096 <= size
-}
-
-/// Returns whether `live` keeps the bounds of a file of `size` bytes whose head has the limit `limit`.
-#[tactic(auto, using(crate::proofs::Opened::valid_by_test, crate::proofs::Opened::test_by_valid))]
-pub fn is_valid_live(limit: u32, size: u64, live: &Live) -> bool
-    ensures value { result ≡ is_valid_live limit size live.now }
-    ensures bounds { IsTrue result ↔ IsValidLive limit size live.now }
-{
-    keeps_bounds(limit, size, live)
 }

@@ -1,10 +1,10 @@
 ghost use Rattle.std.specs.Prelude.{◌≡◌, ◌≢◌, ◌⊎◌, ◌+◌, ◌*◌, ◌/◌, ◌≤◌, ◌<◌, ◌==◌, length, take, true, IfOk, IfErr, Ok, Err, Some, None, slice_index};
 ghost use Rattle.tree_shape.specs.Fill.{most_for};
-ghost use Rattle.node_page.specs.declared.node.NodeFault.TheVariants.{Memory};
+ghost use Rattle.node_page.specs.declared.node.Unread.TheVariants.{Memory};
 ghost use Rattle.tree_shape.specs.Flat.{firsts};
 ghost use Rattle.tree_shape.specs.Entries.{flat_leaves, flat_inners};
 ghost use Rattle.node_page.specs.declared.node.Version.TheVariants.{First};
-ghost use Rattle.node_page.specs.Nodes.{AreNumbers, AreNumbersFrom, SpellsIn, IsValidNode, parent_place, leaf_in, leaf_at, inner_at, place_of, place_in, count_of, near_at, are_near, is_count, is_rest_zero, fault_in, node_in};
+ghost use Rattle.node_page.specs.Nodes.{AreNumbers, AreNumbersFrom, SpellsIn, IsUnread, IsValidNode, parent_place, leaf_in, leaf_at, inner_at, place_of, place_in, count_of, near_at, are_near, is_count, is_rest_zero, fault_in, node_in};
 
 use crate::bytes::{are_zero, get_u16, get_u32, get_u64};
 use byteorder::{BigEndian, ByteOrder};
@@ -29,25 +29,33 @@ pub enum NodeFault {
     /// A byte that no field takes is not 0.
     #[error("a node with more in it than its fields")]
     Tail,
+}
+
+/// Why no node was read from a page.
+#[derive(Clone, Copy, Debug, PartialEq, Eq, Error)]
+pub enum Unread {
+    /// The page holds no node.
+    #[error("{0}")]
+    NoNode(NodeFault),
     /// There was no memory for the node.
     #[error("out of memory")]
     Memory,
 }
 
-impl From<AllocError> for NodeFault {
-    ghost from_gives = { λ _ fault. fault ≡ Memory };
+impl From<AllocError> for Unread {
+    ghost from_gives = { λ _ why. why ≡ Memory };
 
-    fn from(_error: AllocError) -> NodeFault {
-        NodeFault::Memory
+    fn from(_error: AllocError) -> Unread {
+        Unread::Memory
     }
 }
 
 /// A version of the format of nodes.
 #[derive(Clone, Copy)]
 pub enum Version {
-    /// A leaf entry has no tag, which is its id then.
+    /// A leaf entry has no field for a tag. The object's tag is its id.
     First,
-    /// A leaf entry has a tag.
+    /// A leaf entry has a field for the tag.
     Second,
 }
 
@@ -182,7 +190,7 @@ fn read_numbers(page: &[u8; 4096], from: usize, numbers: &mut [u32])
 }
 
 // Returns the first `count` numbers of four bytes of the entries.
-// They are read a block at a time, so that no memory is cleared before it is written.
+// They are read a block at a time, so that only one block is cleared before it is written.
 fn numbers_of(alloc: Global, page: &[u8; 4096], count: usize) -> Result<Vec<u32>, AllocError>
     requires { 16 + 4 * count ≤ 4096 }
     ensures numbers { IfOk result (λ numbers. AreNumbers page.now numbers.items) }
@@ -279,14 +287,14 @@ fn node_in(alloc: Global, page: &[u8; 4096], dim: u8, version: Version) -> Resul
     Ok(Node::Inner { level, entries })
 }
 
-/// Reads a node over points of `dim` coordinates from a page of a file of `version`, or names the first fault in the order of
+/// Reads a node over points of `dim` coordinates from a page of a file of `version`, or names the page's first fault in the order of
 /// `NodeFault`. A page of zeros is an empty leaf. In a leaf of the first version the tag of an object is its id.
 pub fn decode_node(
     alloc: Global,
     page: &[u8; 4096],
     dim: u8,
     version: Version,
-) -> Result<Node, NodeFault>
+) -> Result<Node, Unread>
     requires some { 1 ≤ dim }
     requires few { dim ≤ 64 }
     // The page spells the node that is read.
@@ -296,12 +304,11 @@ pub fn decode_node(
     // The node that is read is the page's, and the page has no fault.
     ensures told { IfOk result (λ node. (fault_in version dim page.now ≡ None) × (node ≡ node_in version dim page.now)) }
     // A node that the page spells is read, unless memory runs out.
-    ensures only { (node : Node) → SpellsIn version dim page.now node → (result ≡ Ok node) ⊎ (result ≡ Err NodeFault.Memory) }
-    ensures fault { IfErr result (λ fault. (fault ≡ NodeFault.Memory) ⊎ (fault_in version dim page.now ≡ Some fault)) }
-    ensures memory { IfErr result (λ fault. fault ≡ NodeFault.Memory → fault_in version dim page.now ≡ None) }
+    ensures only { (node : Node) → SpellsIn version dim page.now node → (result ≡ Ok node) ⊎ (result ≡ Err Unread.Memory) }
+    ensures fault { IfErr result (IsUnread version dim page.now) }
 {
     if let Some(fault) = fault_of(page, dim, version) {
-        return Err(fault);
+        return Err(Unread::NoNode(fault));
     }
     Ok(node_in(alloc, page, dim, version)?)
 }

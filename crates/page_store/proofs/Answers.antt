@@ -56,10 +56,9 @@ pub answers_fault : (v : Version) (r : Result Node PageFault) (old new : Shelf) 
 answers_fault v (Ok node) old new page bytes file within fault same of_file = tt
 answers_fault v (Err (Bad p f)) old new page bytes file within fault same of_file = (
   fault.0,
-  fault.1,
   within_by_test old.pages page within,
   λ is_known. ap (λ (read : Read). read page) (of_file is_known)
-      ∙ told_fault v old.dim old.pages file page bytes f within (same is_known) fault.2,
+      ∙ told_fault v old.dim old.pages file page bytes f within (same is_known) fault.1,
 )
 answers_fault v (Err Memory) old new page bytes file within fault same of_file = tt
 answers_fault v (Err Disk) old new page bytes file within fault same of_file = absurd fault

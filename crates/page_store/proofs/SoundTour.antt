@@ -68,7 +68,7 @@ no_node s t old page fault why sound =
 pub tour_passes : (s : Space) (t : Live) (old new : Shelf) (fault : PageFault) → HasTourCause t old new fault → IsTrue old.is_known → IsSoundTree s (nodes_of old.read) t → IsPassing fault
 tour_passes s t old new Disk cause is_known sound = tt
 tour_passes s t old new Memory cause is_known sound = tt
-tour_passes s t old new (Bad page fault) cause is_known sound = absurd (no_node s t old page (Bad page fault) (cause.2 is_known) sound)
+tour_passes s t old new (Bad page fault) cause is_known sound = absurd (no_node s t old page (Bad page fault) (cause.1 is_known) sound)
 tour_passes s t old new (Outside page) cause is_known sound = absurd (no_node s t old page (Outside page) (cause.1 is_known) sound)
 tour_passes s t old new (Repeats page) cause is_known sound =
     let low = (sound_names s (nodes_of old.read) t t.pages page sound (cause.1 is_known)).0 in

@@ -30,12 +30,11 @@ module _ (live : Live) (old now new : Shelf) (opened page : ℕ) (holds : HoldsS
   pub page_stops : (fault : PageFault) → HasPageCause now new page fault → HasTourCause live old new fault
   page_stops Disk cause = (let l = holds.faults in let c = cause in omega arith)
   page_stops (Bad p fault) cause = (
-    cause.1,
-    subst (λ (n : ℕ). IsWithin n p) holds.pages (subst (λ (k : ℕ). IsWithin now.pages k) (sym cause.0) cause.2),
+    subst (λ (n : ℕ). IsWithin n p) holds.pages (subst (λ (k : ℕ). IsWithin now.pages k) (sym cause.0) cause.1),
     λ is_known. (
       subst (λ (k : ℕ). old.read k ≡ Err (Bad p fault)) (sym cause.0)
           (subst (λ (k : ℕ). old.read page ≡ Err (Bad k fault)) (sym cause.0)
-          (ap (λ (r : Read). r page) (sym holds.read) ∙ cause.3 (rw holds.is_known is_known))),
+          (ap (λ (r : Read). r page) (sym holds.read) ∙ cause.2 (rw holds.is_known is_known))),
       (opened, low, names_as p (sym cause.0) is_known),
     ),
   )

@@ -1,11 +1,10 @@
 -- What each page of a file holds.
-use Rattle.std.specs.Prelude.{ℕ, ◌≡◌, ◌≢◌, ◌≤◌, ◌<◌, ◌&&◌, nat_le, nat_lt, Bool, true, false, List, Option, Some, None, Result, Ok, Err, if◌then◌else◌}
+use Rattle.std.specs.Prelude.{ℕ, ◌≡◌, ◌≤◌, ◌<◌, ◌&&◌, nat_le, nat_lt, Bool, true, false, List, Option, Some, None, Result, Ok, Err, if◌then◌else◌}
 use Rattle.tree_shape.specs.declared.entry.Node.{Node}
 use Rattle.tree_shape.specs.Tree.{Nodes}
 use Rattle.node_page.specs.declared.node.NodeFault.{NodeFault}
 use Rattle.node_page.specs.declared.node.Version.{Version}
 use Rattle.node_page.specs.declared.node.Version.TheVariants.{First, Second}
-use Rattle.node_page.specs.declared.node.NodeFault.TheVariants.{Memory as NodeMemory}
 use Rattle.node_page.specs.Nodes.{fault_in, node_in}
 use Rattle.node_page.specs.Opening.{page_of}
 use Rattle.page_store.specs.declared.pages.PageFault.{PageFault}
@@ -46,7 +45,7 @@ nodes_of read page = node_or_none (read page)
 
 -- why the bytes of a page gave no node
 abbrev pub IsBytesFault : Version → ℕ → List ℕ → ℕ → PageFault → Type 0
-IsBytesFault version dim bytes page (Bad p fault) = (p ≡ page) × (fault ≢ NodeMemory) × (fault_in version dim bytes ≡ Some fault)
+IsBytesFault version dim bytes page (Bad p fault) = (p ≡ page) × (fault_in version dim bytes ≡ Some fault)
 IsBytesFault version dim bytes page Memory = Unit {0}
 IsBytesFault version dim bytes page Disk = ⊥
 IsBytesFault version dim bytes page (Outside p) = ⊥

@@ -1,9 +1,8 @@
 -- What pages mean to their callers.
-use Rattle.std.specs.Prelude.{◌≡◌, ◌≢◌, ℕ, ◌≤◌, Bool, false, IsTrue, Ok, Err}
+use Rattle.std.specs.Prelude.{◌≡◌, ℕ, ◌≤◌, Bool, false, IsTrue, Ok, Err}
 use Rattle.outside_io.specs.Causes.{Rose}
 use Rattle.tree_shape.specs.declared.entry.Node.{Node}
 use Rattle.node_page.specs.Nodes.{IsValidNode}
-use Rattle.node_page.specs.declared.node.NodeFault.TheVariants.{Memory as NodeMemory}
 use Rattle.page_store.specs.declared.pages.PageFault.{PageFault}
 use Rattle.page_store.specs.declared.pages.PageFault.TheVariants.{Disk, Bad, Outside, Memory, Repeats, Level}
 use Rattle.page_store.specs.Reading.{Read, IsWithin, is_within}
@@ -36,7 +35,7 @@ pub record IsNodeOf (shelf : Shelf) (page : ℕ) (node : Node) : Type 0 where
 -- why a page gave no node: its disk failed, its bytes are no node, it is outside the pages, or memory ran out
 abbrev pub HasPageCause : Shelf → Shelf → ℕ → PageFault → Type 0
 HasPageCause old new page Disk = Rose old.faults new.faults
-HasPageCause old new page (Bad p fault) = (p ≡ page) × (fault ≢ NodeMemory) × IsWithin old.pages page
+HasPageCause old new page (Bad p fault) = (p ≡ page) × IsWithin old.pages page
     × (IsTrue old.is_known → old.read page ≡ Err (Bad page fault))
 HasPageCause old new page (Outside p) = (p ≡ page) × (is_within old.pages page ≡ false) × (IsTrue old.is_known → old.read page ≡ Err (Outside page))
 HasPageCause old new page Memory = Unit {0}

@@ -1,16 +1,15 @@
 -- The walk of a tree by child numbers, which opens each node before the nodes that it names.
-use Rattle.std.specs.Prelude.{◌≡◌, ◌≢◌, ℕ, ◌<◌, ◌≤◌, false, IsTrue, List, [], ◌∷◌, ◌++◌, map, length, Some, Err}
-use Rattle.metric_laws.specs.Counts.{next_count, count_up}
+use Rattle.std.specs.Prelude.{◌≡◌, ℕ, ◌<◌, ◌≤◌, false, IsTrue, List, [], ◌∷◌, ◌++◌, map, length, Some, Err}
+use Rattle.metric_laws.specs.Counts.{count_up}
 use Rattle.outside_io.specs.Causes.{Rose}
 use Rattle.tree_shape.specs.declared.live.Live.{Live}
 use Rattle.tree_shape.specs.declared.entry.Node.{Node}
 use Rattle.tree_shape.specs.declared.entry.Node.TheVariants.{Leaf, Inner}
 use Rattle.tree_shape.specs.Tree.{Nodes}
-use Rattle.node_page.specs.declared.node.NodeFault.TheVariants.{Memory as NodeMemory}
 use Rattle.page_store.specs.declared.pages.PageFault.{PageFault}
 use Rattle.page_store.specs.declared.pages.PageFault.TheVariants.{Disk, Bad, Outside, Memory, Repeats, Level}
 use Rattle.page_store.specs.Reading.{IsWithin, is_within, nodes_of}
-use Rattle.page_store.specs.Shelf.{Shelf, IsNodeOf}
+use Rattle.page_store.specs.Shelf.{Shelf}
 
 -- the pages that a node names
 abbrev pub children : Node → List ℕ
@@ -44,19 +43,12 @@ pub record Names (nodes : Nodes) (root opened page : ℕ) : Type 0 where
 abbrev pub NamesInside : Nodes → Live → ℕ → Type 0
 NamesInside nodes live page = (opened : ℕ) × (opened < live.pages) × Names nodes live.root opened page
 
--- a page was asked for once, and the pages that its node names come before the pages `left`
-pub record OpensPage (old new : Shelf) (page : ℕ) (left after : List ℕ) : Type 0 where
-  pub node : Node
-  pub is : IsNodeOf old page node
-  pub asked : new.asked ≡ next_count old.asked
-  pub pushed : after ≡ children node ++ left
-
 -- why the walk of the live tree stops: the disk failed; memory ran out; it names a page that holds no node, or a page outside the
 -- file; or it has opened as many pages as there are, and names one more
 abbrev pub HasTourCause : Live → Shelf → Shelf → PageFault → Type 0
 HasTourCause live old new Disk = Rose old.faults new.faults
 HasTourCause live old new Memory = Unit {0}
-HasTourCause live old new (Bad page fault) = (fault ≢ NodeMemory) × IsWithin old.pages page
+HasTourCause live old new (Bad page fault) = IsWithin old.pages page
     × (IsTrue old.is_known → (old.read page ≡ Err (Bad page fault)) × NamesInside (nodes_of old.read) live page)
 HasTourCause live old new (Outside page) = (is_within old.pages page ≡ false)
     × (IsTrue old.is_known → (old.read page ≡ Err (Outside page)) × NamesInside (nodes_of old.read) live page)

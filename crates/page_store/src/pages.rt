@@ -16,7 +16,7 @@ pub enum PageFault {
     /// The disk failed.
     #[error("a page could not be read")]
     Disk,
-    /// The bytes of this page are no node. The fault is never `NodeFault::Memory`.
+    /// The bytes of this page are no node.
     #[error("page {0} holds no node")]
     Bad(u32, NodeFault),
     /// This page is below 3, or not below the live slot's number of pages.

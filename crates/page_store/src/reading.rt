@@ -8,7 +8,7 @@ ghost use Rattle.node_page.specs.declared.node.Version.TheVariants.{Second};
 
 use crate::{PageFault, SharedNode};
 use disk_model::{Disk, Failed};
-use node_page::{NodeFault, Version, decode_node};
+use node_page::{Unread, Version, decode_node};
 use std::alloc::Global;
 use tree_shape::{Node, PAGE};
 
@@ -78,8 +78,8 @@ pub fn node_on(
 {
     match decode_node(alloc, bytes, dim, version) {
         Ok(node) => Ok(SharedNode::new(alloc, node)?),
-        Err(NodeFault::Memory) => Err(PageFault::Memory),
-        Err(fault) => Err(PageFault::Bad(page, fault)),
+        Err(Unread::Memory) => Err(PageFault::Memory),
+        Err(Unread::NoNode(fault)) => Err(PageFault::Bad(page, fault)),
     }
 }
 

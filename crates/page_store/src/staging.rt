@@ -67,9 +67,10 @@ impl Staged {
         None
     }
 
-    /// Returns the number of nodes.
+    /// Returns the number of nodes. No two of them are staged for one page.
     pub fn len(&self) -> usize
-        ensures { result ≡ length self.now }
+        ensures len { result ≡ length self.now }
+        ensures apart { AreApart self.now }
     {
         self.nodes.len()
     }
@@ -103,13 +104,6 @@ impl Staged {
         ensures { (s : StagedNode) → slice_get self.now i ≡ Some s → result.now ≡ s.node }
     {
         &self.nodes[i].node
-    }
-
-    /// Shows that no two nodes are staged for one page.
-    pub fn are_apart(&self)
-        ensures { AreApart self.now }
-    {
-        let _nodes = &self.nodes;
     }
 }
 

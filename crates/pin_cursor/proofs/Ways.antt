@@ -161,12 +161,11 @@ module _ (s : Space) (axioms : IsSpace s) (old : Shelf) (live : Live) (q : List 
       pub way_cause : (new : Shelf) (fault : PageFault) → HasPageCause now new x.page fault → HasStepCause start old new fault
       way_cause new Disk cause = (let l = way.same.faults in let c = cause in omega arith)
       way_cause new (Bad page fault) cause = (
-        cause.1,
-        subst (λ (p : ℕ). IsWithin p page) way.same.pages (subst (λ (p : ℕ). IsWithin now.pages p) (sym cause.0) cause.2),
+        subst (λ (p : ℕ). IsWithin p page) way.same.pages (subst (λ (p : ℕ). IsWithin now.pages p) (sym cause.0) cause.1),
         λ is_known. (
           subst (λ (p : ℕ). old.read p ≡ Err (Bad page fault)) (sym cause.0)
               (subst (λ (p : ℕ). old.read x.page ≡ Err (Bad p fault)) (sym cause.0)
-              (ap (λ (r : Read). r x.page) (sym way.same.read) ∙ cause.3 (rw way.same.is_known is_known))),
+              (ap (λ (r : Read). r x.page) (sym way.same.read) ∙ cause.2 (rw way.same.is_known is_known))),
           subst (λ (p : ℕ). IsReachedFrom (nodes_of old.read) start p) (sym cause.0) (reached is_known),
         ),
       )
@@ -204,7 +203,7 @@ module _ (s : Space) (axioms : IsSpace s) (old : Shelf) (live : Live) (q : List 
         pub way_passes : (new : Shelf) (fault : PageFault) → HasPageCause now new x.page fault → IsPassing fault
         way_passes new Disk cause = tt
         way_passes new Memory cause = tt
-        way_passes new (Bad page fault) cause = absurd (no_fault page (Bad page fault) cause.0 (((way_cause new (Bad page fault) cause).2 is_known).0))
+        way_passes new (Bad page fault) cause = absurd (no_fault page (Bad page fault) cause.0 (((way_cause new (Bad page fault) cause).1 is_known).0))
         way_passes new (Outside page) cause = absurd (no_fault page (Outside page) cause.0 (((way_cause new (Outside page) cause).1 is_known).0))
         way_passes new (Repeats page) cause = absurd cause
         way_passes new (Level page) cause = absurd cause

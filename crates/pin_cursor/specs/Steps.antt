@@ -1,5 +1,5 @@
 -- What a step does, and why it may fail.
-use Rattle.std.specs.Prelude.{◌≡◌, ◌≢◌, ◌⊎◌, ℕ, ◌+◌, ◌-◌, ◌*◌, ◌≤◌, false, List, [], ◌∷◌, ◌++◌, length, map, take, Some, Err, IsTrue, IsPermutation}
+use Rattle.std.specs.Prelude.{◌≡◌, ◌⊎◌, ℕ, ◌+◌, ◌-◌, ◌*◌, ◌≤◌, false, List, [], ◌∷◌, ◌++◌, length, map, take, Some, Err, IsTrue, IsPermutation}
 use Rattle.std.specs.List.{AllByRecursion, flat_map}
 use Rattle.metric_laws.specs.Space.{Space}
 use Rattle.metric_laws.specs.Lists.{IsIn}
@@ -8,7 +8,6 @@ use Rattle.scan_model.specs.declared.hit.Hit.{Hit}
 use Rattle.tree_shape.specs.declared.live.Live.{Live}
 use Rattle.tree_shape.specs.declared.entry.Node.{Node}
 use Rattle.tree_shape.specs.Tree.{Nodes, IsSoundTree, leaf_entries, inner_entries}
-use Rattle.node_page.specs.declared.node.NodeFault.TheVariants.{Memory as NodeMemory}
 use Rattle.page_store.specs.declared.pages.PageFault.{PageFault}
 use Rattle.page_store.specs.declared.pages.PageFault.TheVariants.{Disk, Bad, Outside, Memory, Repeats, Level}
 use Rattle.page_store.specs.Reached.{IsReached}
@@ -31,7 +30,7 @@ abbrev pub HasStepCause : OpenCursor → Shelf → Shelf → PageFault → Type 
 HasStepCause c old new Disk = Rose old.faults new.faults
 HasStepCause c old new Memory = Unit {0}
 HasStepCause c old new (Bad page fault) =
-    (fault ≢ NodeMemory) × IsWithin old.pages page × (IsTrue old.is_known → (old.read page ≡ Err (Bad page fault)) × IsReachedFrom (nodes_of old.read) c page)
+    IsWithin old.pages page × (IsTrue old.is_known → (old.read page ≡ Err (Bad page fault)) × IsReachedFrom (nodes_of old.read) c page)
 HasStepCause c old new (Outside page) =
     (is_within old.pages page ≡ false) × (IsTrue old.is_known → (old.read page ≡ Err (Outside page)) × IsReachedFrom (nodes_of old.read) c page)
 HasStepCause c old new (Repeats page) =

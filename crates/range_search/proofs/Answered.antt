@@ -33,7 +33,7 @@ range_found s axioms live q r is_point few old new u v records hits way fewer fo
         generation_is = generation;
         root_is = root;
         query_is = query;
-        valid = valid_log found.log hits (subst IsValidQuery (sym query) (record { some = rw (axioms.long q is_point) axioms.some_words; few = rw (axioms.long q is_point) axioms.few_words }))
+        valid = valid_log found.log hits (subst IsValidQuery (sym query) (record { some = rw (axioms.long q is_point) axioms.some_coordinates; few = rw (axioms.long q is_point) axioms.few_coordinates }))
             (rw query answers) (omega arith) (rw are (omega arith)) (rw are way.few_marks);
       };
       least = Î» is_known. (
@@ -74,7 +74,7 @@ pub passes : (f : Search) (live : Live) (old new : Shelf) (fault : PageFault) â†
 passes f live old new Disk cause is_known sound = tt
 passes f live old new Memory cause is_known sound = tt
 passes f live old new (Bad page fault) cause is_known sound =
-    let why = cause.2 is_known in
+    let why = cause.1 is_known in
     absurd (no_node f live old page (Bad page fault) why.0 why.1.2 sound)
 passes f live old new (Outside page) cause is_known sound =
     let why = cause.1 is_known in

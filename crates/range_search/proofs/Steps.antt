@@ -88,12 +88,11 @@ module _ (f : Search) (live : Live) (old now next : Shelf) (u v : ℕ) (n : Need
   pub cause_here : (fault : PageFault) → length rs < live.pages → HasPageCause now next n.page fault → HasWalkCause f live old next fault
   cause_here Disk low cause = (let l = way.holds.faults in let c = cause in omega arith)
   cause_here (Bad page fault) low cause = (
-    cause.1,
-    subst (λ (p : ℕ). IsWithin p page) way.holds.pages (subst (λ (p : ℕ). IsWithin now.pages p) (sym cause.0) cause.2),
+    subst (λ (p : ℕ). IsWithin p page) way.holds.pages (subst (λ (p : ℕ). IsWithin now.pages p) (sym cause.0) cause.1),
     λ is_known. (
       subst (λ (p : ℕ). old.read p ≡ Err (Bad page fault)) (sym cause.0)
           (subst (λ (p : ℕ). old.read n.page ≡ Err (Bad p fault)) (sym cause.0)
-          (ap (λ (r : Read). r n.page) (sym way.holds.read) ∙ cause.3 (rw way.holds.is_known is_known))),
+          (ap (λ (r : Read). r n.page) (sym way.holds.read) ∙ cause.2 (rw way.holds.is_known is_known))),
       (length rs, low, needs_here (length rs) page (sym cause.0) refl is_known),
     ),
   )

@@ -1,5 +1,5 @@
 -- What a search walks, what it finds, and why it may fail.
-use Rattle.std.specs.Prelude.{◌≡◌, ◌≢◌, ℕ, ◌+◌, ◌*◌, ◌≤◌, ◌<◌, false, List, [], ◌∷◌, length, IsTrue, Err}
+use Rattle.std.specs.Prelude.{◌≡◌, ℕ, ◌+◌, ◌*◌, ◌≤◌, ◌<◌, false, List, [], ◌∷◌, length, IsTrue, Err}
 use Rattle.std.specs.List.{AllByRecursion}
 use Rattle.metric_laws.specs.Space.{Space}
 use Rattle.outside_io.specs.Causes.{Rose}
@@ -7,7 +7,6 @@ use Rattle.scan_model.specs.declared.hit.Hit.{Hit}
 use Rattle.scan_model.specs.declared.query.Query.{Query}
 use Rattle.tree_shape.specs.declared.live.Live.{Live}
 use Rattle.tree_shape.specs.Tree.{Nodes}
-use Rattle.node_page.specs.declared.node.NodeFault.TheVariants.{Memory as NodeMemory}
 use Rattle.page_store.specs.declared.pages.PageFault.{PageFault}
 use Rattle.page_store.specs.declared.pages.PageFault.TheVariants.{Disk, Bad, Outside, Memory, Repeats, Level}
 use Rattle.page_store.specs.Reading.{IsWithin, is_within, nodes_of}
@@ -52,7 +51,7 @@ abbrev pub HasWalkCause : Search → Live → Shelf → Shelf → PageFault → 
 HasWalkCause f live old new Disk = Rose old.faults new.faults
 HasWalkCause f live old new Memory = Unit {0}
 HasWalkCause f live old new (Bad page fault) =
-    (fault ≢ NodeMemory) × IsWithin old.pages page
+    IsWithin old.pages page
     × (IsTrue old.is_known → (old.read page ≡ Err (Bad page fault)) × NeedsInside f (nodes_of old.read) live page)
 HasWalkCause f live old new (Outside page) =
     (is_within old.pages page ≡ false) × (IsTrue old.is_known → (old.read page ≡ Err (Outside page)) × NeedsInside f (nodes_of old.read) live page)

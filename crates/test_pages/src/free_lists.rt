@@ -107,7 +107,6 @@ fn pages_outside_the_tree(rt: HostRuntime) {
     check_take(&rt, &mut free, Some(8));
     check_take(&rt, &mut free, None);
     check(&rt, &free, &[]);
-    free.are_kept();
     laws::sound_trees_are_walked();
     laws::least_are_numbers();
     laws::whole_trees_are_walked();

@@ -1,7 +1,7 @@
 use crate::caches::holds;
 use node_page::{
-    Head, HeadFault, NodeFault, Slot, Version, decode_head, decode_node, decode_slot, encode_head,
-    encode_node, encode_slot,
+    Head, HeadFault, NodeFault, Slot, Unread, Version, decode_head, decode_node, decode_slot,
+    encode_head, encode_node, encode_slot,
 };
 use std::process::Abort;
 use tree_shape::{LeafEntries, LeafRef, Node, TryClone};
@@ -154,7 +154,7 @@ fn check_fault(
     put(page, at, byte);
     holds(
         rt,
-        decode_node(rt.alloc(), page, 2, Version::Second).err() == Some(fault),
+        decode_node(rt.alloc(), page, 2, Version::Second).err() == Some(Unread::NoNode(fault)),
     );
 }
 
@@ -196,7 +196,7 @@ fn a_leaf_of_the_first_version(rt: HostRuntime) {
     check_old_leaf(&rt, &page);
     put(&mut page, 36, 1);
     let fault = decode_node(rt.alloc(), &page, 2, Version::First).err();
-    holds(&rt, fault == Some(NodeFault::Tail));
+    holds(&rt, fault == Some(Unread::NoNode(NodeFault::Tail)));
 }
 
 // Is an object of three coordinates: its id, its tag, its parent distance and its point.

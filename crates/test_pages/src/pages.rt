@@ -118,7 +118,6 @@ fn nodes_are_staged(rt: HostRuntime) {
     holds(&rt, is_any_leaf(staged.node_at(0)));
     holds(&rt, staged.get(7).is_some());
     holds(&rt, staged.get(8).is_none());
-    staged.are_apart();
     laws::sound_trees_are_whole();
     laws::trees_stand_on_pages();
     laws::placements_are_new();

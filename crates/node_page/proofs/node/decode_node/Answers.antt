@@ -1,15 +1,12 @@
 use Rattle.std.proofs.Common.{◌≡◌, inl, Some, None, Ok, sym, ◌∙◌, ap, subst}
 use Rattle.node_page.specs.Nodes.{SpellsIn}
-use Rattle.node_page.proofs.NodeLaws.{spells_by_none, none_by_spells, node_is, never_memory, few_by_none, valid_by_spells}
+use Rattle.node_page.proofs.NodeLaws.{spells_by_none, none_by_spells, node_is, few_by_none, valid_by_spells}
 use Rattle.node_page.proofs.node.decode_node.Goals as goal
 
 pub returns-in-Some-clause-only : goal.returns-in-Some-clause-only
 returns-in-Some-clause-only c node spells =
     let clash : Some c.in-Some.fault ≡ None = c.in-Some.ensures ∙ none_by_spells c.args.version c.args.dim c.args.page.now node spells in
     absurd cc
-
-pub returns-in-Some-clause-memory : goal.returns-in-Some-clause-memory
-returns-in-Some-clause-memory c memory = absurd (never_memory c.args.version c.args.dim c.args.page.now c.in-Some.fault (sym c.in-Some.ensures) memory)
 
 pub node_in-requires-clause-most : goal.node_in-requires-clause-most
 node_in-requires-clause-most c = few_by_none c.args.version c.args.dim c.args.page.now (sym c.fault_of.ensures ∙ c.in_default.is)
