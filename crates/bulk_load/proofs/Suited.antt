@@ -97,7 +97,7 @@ groups_own s space rows tags is_point is_root h set k = record {
     g = group_count (most_for s.dimension) (least_for s.dimension) is_root (most_for s.dimension ^ suc h) (length set)
 
     three : 3 ≤ least
-    three = three_at_least s.dimension space.few_words
+    three = three_at_least s.dimension space.few_coordinates
 
     four : 4 * least ≤ most
     four = four_times s space rows tags is_point
@@ -139,7 +139,7 @@ module _ (l : Load) (space : IsSpace l.space) (valid : IsValidLoad l) where
 
   pub most_some : 12 ≤ l.most
   most_some =
-      let a = three_at_least l.space.dimension space.few_words in let b = four_times l.space space l.points l.tags valid.is_point in let c = valid.most in omega (arith, a, b, c)
+      let a = three_at_least l.space.dimension space.few_coordinates in let b = four_times l.space space l.points l.tags valid.is_point in let c = valid.most in omega (arith, a, b, c)
 
   -- no more than two nodes for each object
   pub nodes_few : (number : ℕ → ℕ) (h : ℕ) (seed : Option ℕ) (set : List ℕ) (i : ℕ) → IsSetFor l (is_top seed) h set → length (nodes_at l number h seed set i) + 1 ≤ 2 * length set

@@ -90,7 +90,7 @@ module _ (l : Load) (space : IsSpace l.space) (valid : IsValidLoad l) (number : 
 
 -- an empty tree is one leaf
 pub empty_pages : (l : Load) → IsSpace l.space → (old : Nodes) (t : Live) → IsSoundTree l.space old t → t.count ≡ 0 → live_pages old t ≡ t.root ∷ []
-empty_pages l space old t sound none = flat t.height (height_is_small l.space old t space.few_words sound).0
+empty_pages l space old t sound none = flat t.height (height_is_small l.space old t space.few_coordinates sound).0
   where
     flat : (h : ℕ) → (1 ≤ h → 2 * 3 ^ h ≤ t.count) → pages_at old h t.root ≡ t.root ∷ []
     flat zero many = refl

@@ -14,8 +14,8 @@ bound = 2 ^ 38
 -- a point is a list of 1 to 64 numbers of 32 bits, always of the same length; of points the distance is symmetric,
 -- 0 exactly for equal ones, within the triangle inequality and within the bound
 pub record IsSpace (s : Space) : Type 0 where
-  pub some_words : 1 ≤ s.dimension
-  pub few_words : s.dimension ≤ 64
+  pub some_coordinates : 1 ≤ s.dimension
+  pub few_coordinates : s.dimension ≤ 64
   pub long : (a : List ℕ) → IsTrue (s.is_point a) → length a ≡ s.dimension
   pub small : (a : List ℕ) → IsTrue (s.is_point a) → All (λ x. x < 2 ^ 32) a
   pub symmetric : (a b : List ℕ) → IsTrue (s.is_point a) → IsTrue (s.is_point b) → s.dist a b ≡ s.dist b a

@@ -11,8 +11,8 @@ use Rattle.metric_mix.specs.declared.joined.Joining.TheVariants.{Sum, Most}
 
 pub capped_axioms : (s : Space) (most : ℕ) → IsSpace s → 1 ≤ most → most ≤ bound → IsSpace (capped_space s most)
 capped_axioms s most is some low = record {
-  some_words = is.some_words;
-  few_words = is.few_words;
+  some_coordinates = is.some_coordinates;
+  few_coordinates = is.few_coordinates;
   long = is.long;
   small = is.small;
   symmetric = λ a b fa fb. omega (arith, is.symmetric a b fa fb);
@@ -45,8 +45,8 @@ both_same n a b front back = sym (take-append-drop n a) ∙ (λ i. front i ++ ba
 
 sum_axioms : (s t : Space) → IsSpace s → IsSpace t → s.dimension + t.dimension ≤ 64 → IsSpace (joined_space Sum s t)
 sum_axioms s t is it few = record {
-  some_words = omega (arith, is.some_words);
-  few_words = few;
+  some_coordinates = omega (arith, is.some_coordinates);
+  few_coordinates = few;
   long = both_long s t is it;
   small = both_small s t is it;
   symmetric = λ a b fa fb.
@@ -72,8 +72,8 @@ sum_axioms s t is it few = record {
 
 most_axioms : (s t : Space) → IsSpace s → IsSpace t → s.dimension + t.dimension ≤ 64 → IsSpace (joined_space Most s t)
 most_axioms s t is it few = record {
-  some_words = omega (arith, is.some_words);
-  few_words = few;
+  some_coordinates = omega (arith, is.some_coordinates);
+  few_coordinates = few;
   long = both_long s t is it;
   small = both_small s t is it;
   symmetric = λ a b fa fb.

@@ -66,8 +66,8 @@ set_spelled n p is_point = (and_parts (is_vector n p) (is_spelled p) is_point).1
 
 pub hausdorff_axioms : (n : ℕ) → 1 ≤ n → n ≤ 64 → IsSpace (hausdorff_space n)
 hausdorff_axioms n some few = record {
-  some_words = some;
-  few_words = few;
+  some_coordinates = some;
+  few_coordinates = few;
   long = set_long n;
   small = λ a fa. vector_small n a (and_parts (is_vector n a) (is_spelled a) fa).0;
   symmetric = λ a b fa fb. omega arith;

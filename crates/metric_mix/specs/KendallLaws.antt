@@ -19,8 +19,8 @@ same_long n a b fa fb = permutation_long n a fa ∙ sym (permutation_long n b fb
 
 pub kendall_axioms : (n : ℕ) → 1 ≤ n → n ≤ 64 → IsSpace (kendall_space n)
 kendall_axioms n some few = record {
-  some_words = some;
-  few_words = few;
+  some_coordinates = some;
+  few_coordinates = few;
   long = permutation_long n;
   small = λ a fa. (let below = permutation_below n a fa in λ k d within. omega (arith, below k d within));
   symmetric = λ a b fa fb. kendall_is n a b fa fb ∙ discord_symmetric a b ∙ sym (kendall_is n b a fb fa);

@@ -52,8 +52,8 @@ eight P p1 p2 p3 p4 p5 p6 p7 p8 kind low high =
 -- a space whose number of coordinates is stated in another way
 renamed : (s : Space) (dim : ℕ) → s.dimension ≡ dim → IsSpace s → IsSpace (record { dimension = dim; is_point = s.is_point; dist = s.dist })
 renamed s dim same is = record {
-  some_words = omega (arith, is.some_words);
-  few_words = omega (arith, is.few_words);
+  some_coordinates = omega (arith, is.some_coordinates);
+  few_coordinates = omega (arith, is.few_coordinates);
   long = λ a fa. is.long a fa ∙ same;
   small = is.small;
   symmetric = is.symmetric;

@@ -18,7 +18,7 @@ not_zero (suc n) some = grind arith
 -- the command of a load whose rows are still to be read
 new_end : (dimension n : ℕ) (tagged : Bool) (load : OpenLoad) (after : List Fields) → IsNewLoad dimension tagged n load →
     load_end load after ≡ end_by tagged dimension [] (record { dimension = dimension; points = [] }) None n after
-new_end dimension n tagged load after new = λ i. end_by (new.tagged_is i) (new.words_are i) (new.tags i) (new.rows i) (new.bad i) (new.left i) after
+new_end dimension n tagged load after new = λ i. end_by (new.tagged_is i) (new.dimension_is i) (new.tags i) (new.rows i) (new.bad i) (new.left i) after
 
 from_new : (dimension n : ℕ) (tagged : Bool) (number : List ℕ) (after : List Fields) → number_below (2 ^ 64) number ≡ Some n → n ≢ 0 →
     ◌≡◌ {A = List Command} (end_by tagged dimension [] (record { dimension = dimension; points = [] }) None n after ∷ commands_after dimension n after)
@@ -36,7 +36,7 @@ new_load dimension n tagged load (name ∷ number ∷ more ∷ others) after new
 
 -- a script with nothing read yet
 pub new_reading : (dimension : ℕ) (reading : Reading) → IsNewReading dimension reading → (after : List Fields) → commands_with reading after ≡ commands_after dimension 0 after
-new_reading dimension reading new after = λ i. new.commands i ++ load_or_after (new.words_are i) (new.load i) after
+new_reading dimension reading new after = λ i. new.commands i ++ load_or_after (new.dimension_is i) (new.load i) after
 
 -- the records of a script, trimmed
 abbrev pub all_trimmed : List Fields → List Fields

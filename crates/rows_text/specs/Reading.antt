@@ -37,7 +37,7 @@ load_end load after =
 
 -- a load of n rows with none read yet
 pub record IsNewLoad (dimension : ℕ) (tagged : Bool) (n : ℕ) (load : OpenLoad) : Type 0 where
-  pub words_are : load.dimension ≡ dimension
+  pub dimension_is : load.dimension ≡ dimension
   pub tagged_is : load.tagged ≡ tagged
   pub left : load.left ≡ n
   pub bad : load.bad ≡ None
@@ -111,6 +111,6 @@ GoesOn load old new fields =
 
 -- nothing is read
 pub record IsNewReading (dimension : ℕ) (reading : Reading) : Type 0 where
-  pub words_are : reading.dimension ≡ dimension
+  pub dimension_is : reading.dimension ≡ dimension
   pub commands : reading.commands.items ≡ []
   pub load : reading.load ≡ None

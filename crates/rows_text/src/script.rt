@@ -37,8 +37,8 @@ fn read_commands(alloc: Global, bytes: &[u8], dimension: usize) -> Result<Vec<Co
 /// The records are those of `csv` with commas, double quotes, no header and any number of fields, after one byte
 /// order mark, which is dropped. They are read one at a time, and a load's rows go straight into its table.
 pub fn read_script(alloc: Global, bytes: &[u8], dimension: usize) -> Result<Vec<Command>, Memory>
-    requires some_words { 1 ≤ dimension }
-    requires few_words { dimension ≤ 64 }
+    requires some_coordinates { 1 ≤ dimension }
+    requires few_coordinates { dimension ≤ 64 }
     requires few_bytes { length bytes.now < 2 ^ 32 }
     ensures script { IfOk result (λ commands. commands.items ≡ script dimension bytes.now) }
     ensures readable { IfOk result (λ commands. All (IsReadable dimension) commands.items) }

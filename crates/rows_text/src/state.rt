@@ -21,6 +21,6 @@ pub struct Reading {
     pub commands: Vec<Command>,
     /// The load whose rows are being read. It is ended by the first record after its rows.
     pub load: Option<OpenLoad>,
-    ghost some_words: { 1 ≤ dimension },
-    ghost few_words: { dimension ≤ 64 },
+    ghost some_coordinates: { 1 ≤ dimension },
+    ghost few_coordinates: { dimension ≤ 64 },
 }

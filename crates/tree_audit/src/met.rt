@@ -78,17 +78,11 @@ impl Met {
         number < self.limit() && !self.has(number)
     }
 
-    /// States that no number was met twice, and that each number that was met is below the limit.
-    pub fn is_valid(&self)
+    /// Returns how many numbers were met. No number was met twice, and each that was met is below the limit.
+    pub fn len(&self) -> u32
+        ensures len { result ≡ length self.now.met }
         ensures once { (number : ℕ) → times number self.now.met ≤ 1 }
         ensures small { AllByRecursion (λ number. number < self.now.limit) self.now.met }
-    {
-        let _numbers = &self.numbers;
-    }
-
-    /// Returns how many numbers were met.
-    pub fn len(&self) -> u32
-        ensures { result ≡ length self.now.met }
     {
         self.numbers.len() as u32
     }

@@ -161,8 +161,6 @@ pub fn join_parts(alloc: Global, live: &Live, parts: &[Part]) -> Result<Option<A
             return Ok(None);
         }
     }
-    visits.pages.is_valid();
-    visits.ids.is_valid();
     if visits.ids.len() != live.count {
         return Ok(None);
     }

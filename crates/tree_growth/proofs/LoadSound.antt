@@ -201,7 +201,7 @@ module _ (s : Space) (space : IsSpace s) (rows : List (List ℕ)) (tags : List �
       )) all
 
   pub four_times : 4 * least ≤ most
-  four_times = let three = three_at_least s.dimension space.few_words in omega arith
+  four_times = let three = three_at_least s.dimension space.few_coordinates in omega arith
 
   pub leaf_sound : (lowest : ℕ) (is_root : Bool) (ks : List ℕ) → AllByRecursion IsPlace ks → lowest ≤ length ks → length ks ≤ most → IsSoundPlain s zero lowest (built_at load is_root zero ks)
   leaf_sound lowest is_root ks low enough few =
@@ -215,7 +215,7 @@ module _ (s : Space) (space : IsSpace s) (rows : List (List ℕ)) (tags : List �
       let l = power_one least in let m = power_one most in leaf_sound least false ks low (omega arith) (omega arith)
   built_sound (suc h) ks low enough few =
       let n : ℕ = length ks in
-      let three = three_at_least s.dimension space.few_words in
+      let three = three_at_least s.dimension space.few_coordinates in
       let some = power_some least (suc h) (omega arith) in
       let wide = powers_wide most least h four_times in
       let p = pow-suc least (suc h) in
@@ -240,7 +240,7 @@ module _ (s : Space) (space : IsSpace s) (rows : List (List ℕ)) (tags : List �
       inner above =
           let ks : List ℕ = places load in
           let l : length ks ≡ length rows = places_long 0 (length rows) in
-          let three = three_at_least s.dimension space.few_words in
+          let three = three_at_least s.dimension space.few_coordinates in
           let some = power_some least (suc h) (omega arith) in
           let wide = powers_wide most least h four_times in
           let q = pow-suc most (suc h) in
@@ -262,7 +262,7 @@ pub load_is_sound : (s : Space) → IsSpace s → (rows : List (List ℕ)) (tags
 load_is_sound s space rows tags is_point =
     let n : ℕ = length rows in
     let most : ℕ = most_for s.dimension in
-    let three = three_at_least s.dimension space.few_words in
+    let three = three_at_least s.dimension space.few_coordinates in
     let four = four_times s space rows tags is_point in
     let g : n + 2 ≤ most ^ suc n = (let h = grows most (suc n) (omega arith) in omega arith) in
     let is = height_is most n 0 n (subst (λ (k : ℕ). n ≤ most ^ k) (let e : suc n ≡ 0 + n + 1 = omega arith in e) (omega arith)) in

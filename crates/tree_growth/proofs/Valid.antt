@@ -192,8 +192,8 @@ new_root_sound s few h (Two c d) sound =
 
 pub insertion_keeps_sound : (s : Space) → IsSpace s → (promote split : ℕ) (o : Object) → ObjectFits s o → (t : Tall) → IsSoundTall s t → IsSoundTall s (placed s promote split o t)
 insertion_keeps_sound s space promote split o is_point t sound =
-    new_root_sound s space.few_words t.height (inserted (rules s promote split) o t.height t.tree)
-    (inserted_by_rules s space (let three = three_at_least s.dimension space.few_words in omega arith) promote split o is_point t.height (root_least t.height) t.tree (some t.height) sound)
+    new_root_sound s space.few_coordinates t.height (inserted (rules s promote split) o t.height t.tree)
+    (inserted_by_rules s space (let three = three_at_least s.dimension space.few_coordinates in omega arith) promote split o is_point t.height (root_least t.height) t.tree (some t.height) sound)
   where
     some : (h : ℕ) → 0 < h → 1 ≤ root_least h
     some zero high = absurd (omega arith)

@@ -56,8 +56,8 @@ l1_is a b = ap (λ n. min n bound) (total_is gap a b)
 
 pub hamming_axioms : (dim : ℕ) → 1 ≤ dim → dim ≤ 64 → IsSpace (vector_space 1 dim)
 hamming_axioms dim some few = record {
-  some_words = some;
-  few_words = few;
+  some_coordinates = some;
+  few_coordinates = few;
   long = vector_long dim;
   small = vector_small dim;
   symmetric = λ a b fa fb. omega (arith, hamming_is a b, hamming_is b a, total_symmetric differs differs_is a b);
@@ -77,8 +77,8 @@ hamming_axioms dim some few = record {
 
 pub l1_axioms : (dim : ℕ) → 1 ≤ dim → dim ≤ 64 → IsSpace (vector_space 2 dim)
 l1_axioms dim some few = record {
-  some_words = some;
-  few_words = few;
+  some_coordinates = some;
+  few_coordinates = few;
   long = vector_long dim;
   small = vector_small dim;
   symmetric = λ a b fa fb. omega (arith, l1_is a b, l1_is b a, total_symmetric gap gap_is a b);
@@ -98,8 +98,8 @@ l1_axioms dim some few = record {
 
 pub max_axioms : (dim : ℕ) → 1 ≤ dim → dim ≤ 64 → IsSpace (vector_space 3 dim)
 max_axioms dim some few = record {
-  some_words = some;
-  few_words = few;
+  some_coordinates = some;
+  few_coordinates = few;
   long = vector_long dim;
   small = vector_small dim;
   symmetric = λ a b fa fb. max_symmetric a b;

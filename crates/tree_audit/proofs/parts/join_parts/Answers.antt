@@ -22,12 +22,12 @@ returns-clause-apart c =
     let pages : c.loop-part.visits.pages.met ≡ c.args.live.now.root ∷ pages_met c.args.parts.now = c.loop-part.invariant.pages ∙ ap (λ (parts : List Part). c.args.live.now.root ∷ pages_met parts) whole in
     let ids : c.loop-part.visits.ids.met ≡ ids_met c.args.parts.now = c.loop-part.invariant.ids ∙ ap ids_met whole in
     record {
-      pages = λ page. subst (λ (xs : List ℕ). times page xs ≤ 1) pages (c.is_valid.ensures.once page);
-      ids = λ id. subst (λ (xs : List ℕ). times id xs ≤ 1) ids (c.is_valid-2.ensures.once id);
+      pages = λ page. subst (λ (xs : List ℕ). times page xs ≤ 1) pages (c.len-2.ensures.once page);
+      ids = λ id. subst (λ (xs : List ℕ). times id xs ≤ 1) ids (c.len.ensures.once id);
       pages_within = subst (λ (n : ℕ). AllByRecursion (λ page. page < n) (c.args.live.now.root ∷ pages_met c.args.parts.now)) c.loop-part.invariant.pages_limit
-          (subst (AllByRecursion (λ page. page < c.loop-part.visits.pages.limit)) pages c.is_valid.ensures.small);
-      ids_within = subst (λ (n : ℕ). AllByRecursion (λ id. id < n) (ids_met c.args.parts.now)) c.loop-part.invariant.ids_limit (subst (AllByRecursion (λ id. id < c.loop-part.visits.ids.limit)) ids c.is_valid-2.ensures.small);
-      count = ap length (sym ids) ∙ sym c.len.ensures ∙ c.if-len-live.false;
+          (subst (AllByRecursion (λ page. page < c.loop-part.visits.pages.limit)) pages c.len-2.ensures.small);
+      ids_within = subst (λ (n : ℕ). AllByRecursion (λ id. id < n) (ids_met c.args.parts.now)) c.loop-part.invariant.ids_limit (subst (AllByRecursion (λ id. id < c.loop-part.visits.ids.limit)) ids c.len.ensures.small);
+      count = ap length (sym ids) ∙ sym c.len.ensures.len ∙ c.if-len-live.false;
     }
 
 pub returns-then-not-branch-2-clause-apart : goal.returns-then-not-branch-2-clause-apart
