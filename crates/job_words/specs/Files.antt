@@ -1,13 +1,11 @@
 -- The files that a job works on.
-use Rattle.std.specs.Prelude.{◌≡◌, true, false, Option, Some, None, Result, Ok, Err, ⊤, refl}
+use Rattle.std.specs.Prelude.{◌≡◌, true, false, Option, Some, None, refl}
 use Rattle.std.specs.Borrow.{Bor}
 use Rattle.std.specs.Option.{option_map}
 use Rattle.clap.specs.Words.{Text}
 use Rattle.job_words.specs.declared.files.FileNames.{FileNames}
 use Rattle.job_words.specs.declared.files.Makes.{Makes}
 use Rattle.job_words.specs.declared.files.Makes.TheVariants as makes
-use Rattle.job_words.specs.declared.files.PlacesFault.{PlacesFault}
-use Rattle.job_words.specs.declared.files.PlacesFault.TheVariants.{Usage, Memory}
 use Rattle.job_words.specs.Jobs.{texts_in}
 use Rattle.job_words.specs.declared.job.Job.{Job}
 use Rattle.job_words.specs.declared.job.Job.TheVariants.{Scan, Create, Session, Shape, Stats, Dump, Show, Audit, Verify, Check, Join, Gen, Migrate, Batch, Seal, Carry, Prove}
@@ -82,9 +80,3 @@ same_texts (Batch index workers (Some log) show) = refl
 same_texts (Seal index) = refl
 same_texts (Carry index log proof) = refl
 same_texts (Prove log root) = refl
-
--- the result is the files of the job, or memory ran out; the words are refused only where they have no job
-abbrev pub AnswersFiles : Option (Job Text) → Result (FileNames (Bor Text)) PlacesFault → Type 0
-AnswersFiles job (Ok found) = option_map files_of job ≡ Some (file_texts found)
-AnswersFiles job (Err Usage) = job ≡ None
-AnswersFiles job (Err Memory) = ⊤

@@ -1,12 +1,7 @@
 ghost use Rattle.std.specs.Prelude.{◌≡◌};
-ghost use Rattle.job_words.specs.Jobs.{job_of};
-ghost use Rattle.job_words.specs.Words.{texts_of};
-ghost use Rattle.job_words.specs.Files.{AnswersFiles, files_of, made_log, no_files, on_index};
+ghost use Rattle.job_words.specs.Files.{files_of, made_log, no_files, on_index};
 
-use crate::job::{Job, JobFault};
-use crate::reading::read_job;
-use std::alloc::Global;
-use thiserror::Error;
+use crate::job::Job;
 
 /// The one file that a job makes.
 #[derive(Clone, Copy, PartialEq, Eq)]
@@ -32,17 +27,6 @@ pub struct FileNames<Name> {
     pub log_in: Option<Name>,
     /// The file that the job makes.
     pub makes: Makes<Name>,
-}
-
-/// Why the words name no files.
-#[derive(Clone, Copy, Debug, PartialEq, Eq, Error)]
-pub enum PlacesFault {
-    /// The words are no job.
-    #[error("usage: mtree COMMAND INDEX [options]")]
-    Usage,
-    /// Memory ran out.
-    #[error("out of memory")]
-    Memory,
 }
 
 /// Returns no files.
@@ -138,18 +122,5 @@ pub fn files_of<Name: Copy>(job: Job<Name>) -> FileNames<Name>
             log_in: Some(log),
             ..no_files()
         },
-    }
-}
-
-/// Returns the files that the words after the program's name ask for.
-///
-/// [`PlacesFault::Usage`] comes only where the words are no job, and [`PlacesFault::Memory`] only where memory runs out.
-pub fn places(alloc: Global, words: &[String]) -> Result<FileNames<&str>, PlacesFault>
-    ensures { AnswersFiles (job_of (texts_of words.now)) result }
-{
-    match read_job(alloc, words) {
-        Ok(job) => Ok(files_of(job)),
-        Err(JobFault::Usage) => Err(PlacesFault::Usage),
-        Err(JobFault::Memory) => Err(PlacesFault::Memory),
     }
 }

@@ -1,6 +1,6 @@
 use job_words::{
-    Complaint, FileNames, Job, JobFault, Makes, MetricName, PlacesFault, PolicyNames, Promote,
-    SpaceName, Split, complaint_on, places, read_job, reads_as_clap,
+    Complaint, FileNames, Job, JobFault, Makes, MetricName, PolicyNames, Promote, SpaceName, Split,
+    complaint_on, files_of, read_job, reads_as_clap,
 };
 use std::alloc::{AllocError, Global};
 use std::process::Abort;
@@ -584,16 +584,10 @@ const FILES: [(&str, FileNames<&str>); 16] = [
 // Says whether the job of a line names these files.
 fn has_files(rt: &(impl AllocGlobal + Abort), line: &str, files: &FileNames<&str>) -> bool {
     let words = words(rt, line);
-    match places(rt.alloc(), &words) {
-        Ok(found) => found == *files,
+    match read_job(rt.alloc(), &words) {
+        Ok(job) => files_of(job) == *files,
         Err(_) => false,
     }
-}
-
-// Says why a line names no files.
-fn places_fault(rt: &(impl AllocGlobal + Abort), line: &str) -> Option<PlacesFault> {
-    let words = words(rt, line);
-    places(rt.alloc(), &words).err()
 }
 
 #[test]
@@ -601,10 +595,6 @@ fn jobs_name_their_files(rt: HostRuntime) {
     for (line, files) in &FILES {
         assert!(rt; has_files(&rt, line, files), "{line}");
     }
-    holds(
-        &rt,
-        places_fault(&rt, "shape a.mt --help") == Some(PlacesFault::Usage),
-    );
 }
 
 // Lists the metrics and their numbers.
