@@ -12,10 +12,10 @@ ghost use Rattle.answer_texts.specs.Answered.{framed, if_any};
 ghost use Rattle.answer_texts.specs.Put.{IsCut};
 
 use log_model::Log;
-use outside_io::{Failed, Memory, Sink};
+use outside_io::{Failed, Sink};
 use prune_log::{encode_log, frame};
 use rows_text::{Reply, reply_text};
-use std::alloc::Global;
+use std::alloc::{AllocError, Global};
 
 /// What is written for a command: the text of its reply, and the frame of its log, which is empty where there is none.
 #[derive(Drop)]
@@ -33,7 +33,7 @@ pub fn add_texts(
     show: bool,
     replies: &mut Vec<u8>,
     frames: &mut Vec<u8>,
-) -> Result<(), Memory>
+) -> Result<(), AllocError>
     requires spelled { MatchOption log.now (Unit {0}) IsValidLog }
     requires tagged { show ≡ true → TagsAre reply.now }
     ensures reply { OnOk result (replies.new.items ≡ replies.old.items ++ text show reply.now) }
@@ -53,7 +53,7 @@ pub fn texts_of(
     reply: &Reply,
     log: &Option<Log>,
     show: bool,
-) -> Result<Texts, Memory>
+) -> Result<Texts, AllocError>
     requires spelled { MatchOption log.now (Unit {0}) IsValidLog }
     requires tagged { show ≡ true → TagsAre reply.now }
     ensures reply { IfOk result (λ texts. texts.reply.items ≡ text show reply.now) }

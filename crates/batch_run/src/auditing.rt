@@ -6,7 +6,6 @@ ghost use Rattle.tree_shape.specs.Entries.{inner_of};
 ghost use Rattle.tree_shape.specs.Fill.{IsFilled, root_least};
 ghost use Rattle.batch_run.specs.Audits.{AreNumbersOf, AreNumbersOn, AreTried, IsFaultOf, IsPartOf};
 
-use crate::Memory;
 use crate::gathering::all_done;
 use disk_model::SharedDisk;
 use image_answers::pages_of;
@@ -14,7 +13,7 @@ use metric_laws::{Meter, Metric};
 use page_store::{DiskPages, Image, PageFault, Pages};
 use par_work::share;
 use slice_disk::SliceDisk;
-use std::alloc::Global;
+use std::alloc::{AllocError, Global};
 use std::thread::Threads;
 use tree_audit::laws::parts_make_the_whole;
 use tree_audit::{AuditFault, Audited, Part, audit, audit_part, join_parts};
@@ -62,7 +61,7 @@ fn try_parts<R: Threads + Sync, D: SharedDisk, M: Metric>(
     live: &Live,
     entries: &InnerEntries,
     workers: usize,
-) -> Result<Vec<Result<Part, AuditFault>>, Memory>
+) -> Result<Vec<Result<Part, AuditFault>>, AllocError>
     requires pages { live.now.pages ≤ 2 ^ 24 }
     requires above { 1 ≤ live.now.height }
     requires entries { length entries.now < 2 ^ 32 }
@@ -102,7 +101,7 @@ pub fn sound_by_parts<R: Threads + Sync, D: SharedDisk, M: Metric>(
     metric: M,
     live: &Live,
     workers: usize,
-) -> Result<Option<Audited>, Memory>
+) -> Result<Option<Audited>, AllocError>
     requires pages { live.now.pages ≤ 2 ^ 24 }
     requires some_workers { 1 ≤ workers }
     requires few_workers { workers ≤ 64 }

@@ -7,14 +7,13 @@ ghost use Rattle.rows_text.specs.Readable.{IsReadable};
 ghost use Rattle.page_store.specs.Images.{bytes_in};
 ghost use Rattle.image_answers.specs.Outcomes.{ArePagesOf, IsGivenOf, IsOutcomeOf};
 
-use crate::Memory;
 use crate::dealing::share_evenly;
 use image_answers::{Outcome, cached_pages, nearest_on, range_on};
 use metric_laws::Metric;
 use page_cache::{Cached, KEPT_NODES};
 use page_store::{Image, ImagePages};
 use rows_text::{Command, Refusal, Reply};
-use std::alloc::Global;
+use std::alloc::{AllocError, Global};
 use std::thread::Threads;
 use tree_shape::Live;
 
@@ -27,7 +26,7 @@ pub fn outcome_of<M: Metric>(
     live: &Live,
     command: &Command,
     tags: bool,
-) -> Result<Outcome, Memory>
+) -> Result<Outcome, AllocError>
     requires few { live.now.pages ≤ 2 ^ 24 }
     requires pages { ArePagesOf (M.space metric) live.now (bytes_in pages.old.inner.image) pages.old }
     requires readable { IsReadable (M.space metric).dimension command.now }
@@ -57,7 +56,7 @@ fn outcome_on<M: Metric>(
     metric: M,
     live: &Live,
     command: &Command,
-) -> Result<Outcome, Memory>
+) -> Result<Outcome, AllocError>
     requires pages { live.now.pages ≤ 2 ^ 24 }
     requires readable { IsReadable (M.space metric).dimension command.now }
     ensures { IfOk result (IsOutcomeOf (M.space metric) live.now image.now command.now) }
@@ -81,7 +80,7 @@ pub fn batch<R: Threads + Sync, M: Metric>(
     live: &Live,
     commands: &[Command],
     workers: usize,
-) -> Result<Vec<Outcome>, Memory>
+) -> Result<Vec<Outcome>, AllocError>
     requires pages { live.now.pages ≤ 2 ^ 24 }
     requires readable { All (IsReadable (M.space metric).dimension) commands.now }
     requires few { length commands.now < 2 ^ 32 }
@@ -89,7 +88,7 @@ pub fn batch<R: Threads + Sync, M: Metric>(
     requires few_workers { workers ≤ 64 }
     ensures { IfOk result (λ outcomes. AllZip (IsOutcomeOf (M.space metric) live.now image.now) commands.now outcomes.items) }
 {
-    let work = |i: usize| -> Result<Outcome, Memory>
+    let work = |i: usize| -> Result<Outcome, AllocError>
         requires { (live.now.pages ≤ 2 ^ 24) × All (IsReadable (M.space metric).dimension) commands.now × (i < length commands.now) }
         ensures { (c : Command) → IfOk result (IsOutcomeOf (M.space metric) live.entry.now image.entry.now
             (slice_index_or commands.entry.now i c)) }

@@ -3,9 +3,8 @@
 ghost use Rattle.std.specs.Prelude.{◌≡◌, ℕ, ◌+◌, ◌-◌, ◌*◌, ◌/◌, ◌%◌, ◌<◌, ◌≤◌, ◌^◌, length, slice_get, Some, Ok, IfOk, IfNone, IfSome, vec_len};
 ghost use Rattle.batch_run.specs.Dealing.{AreInOrder, AreSeated, place_of, shift_of, wound};
 
-use crate::Memory;
 use par_work::share;
-use std::alloc::Global;
+use std::alloc::{AllocError, Global};
 use std::thread::Threads;
 
 /// The dealing of places to workers, as cards are dealt. A round gives each worker one place, and who gets the first one
@@ -97,8 +96,8 @@ pub fn in_order<X: Drop>(
     alloc: Global,
     deal: &Deal,
     count: usize,
-    seats: Vec<Option<Result<X, Memory>>>,
-) -> Result<Vec<X>, Memory>
+    seats: Vec<Option<Result<X, AllocError>>>,
+) -> Result<Vec<X>, AllocError>
     requires some { (1 ≤ deal.now.rounds) × (1 ≤ deal.now.workers) }
     requires few { (deal.now.rounds < 2 ^ 33) × (deal.now.workers ≤ 64) }
     requires whole { count ≤ deal.now.rounds * deal.now.workers }
@@ -119,13 +118,13 @@ pub fn in_order<X: Drop>(
 
 /// Runs the work at each place below `count` and returns the results in order, or fails when memory runs out at one of them. Each
 /// worker gets places from all parts of the work, so that none waits long for the others.
-pub fn share_evenly<R: Threads + Sync, X: Send + Drop, F: Fn(usize) -> Result<X, Memory> + Sync>(
+pub fn share_evenly<R: Threads + Sync, X: Send + Drop, F: Fn(usize) -> Result<X, AllocError> + Sync>(
     rt: &R,
     alloc: Global,
     count: usize,
     workers: usize,
     work: &F,
-) -> Result<Vec<X>, Memory>
+) -> Result<Vec<X>, AllocError>
     requires calls { (i : ℕ) → i < count → F.pre work.now i }
     requires some { 1 ≤ workers }
     requires few { workers ≤ 64 }
@@ -134,7 +133,7 @@ pub fn share_evenly<R: Threads + Sync, X: Send + Drop, F: Fn(usize) -> Result<X,
     ensures each { IfOk result (λ v. (i : ℕ) (x : X) → slice_get v.items i ≡ Some x → F.post work.now i (Ok x)) }
 {
     let deal = Deal::of(count, workers);
-    let seated = |seat: usize| -> Option<Result<X, Memory>>
+    let seated = |seat: usize| -> Option<Result<X, AllocError>>
         requires { ((i : ℕ) → i < count → F.pre work.now i) × ((1 ≤ deal.rounds) × (1 ≤ deal.workers))
             × ((deal.rounds < 2 ^ 33) × (deal.workers ≤ 64)) × (seat < deal.rounds * deal.workers) }
         ensures { IfSome result (λ x.

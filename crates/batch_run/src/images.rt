@@ -5,7 +5,6 @@ ghost use Rattle.disk_model.specs.Disk.{IsUnchanged};
 ghost use Rattle.batch_run.specs.declared.images.ImageFault.TheVariants as fault;
 ghost use Rattle.batch_run.specs.Images.{HasBytes, IsImageOf, IsPartRead, HasImageCause};
 
-use crate::Memory;
 use crate::gathering::all_done;
 use disk_model::{Disk, SharedDisk};
 use job_files::MOST_WHOLE_PAGES;
@@ -98,7 +97,7 @@ fn parts_by<R: Threads + Sync, D: SharedDisk>(
     pages: u32,
     part_pages: u32,
     workers: usize,
-) -> Result<Option<Parts>, Memory>
+) -> Result<Option<Parts>, AllocError>
     requires pages { pages ≤ 262144 }
     requires some_pages { 1 ≤ part_pages }
     requires some_workers { 1 ≤ workers }
@@ -129,7 +128,7 @@ fn parts_by<R: Threads + Sync, D: SharedDisk>(
 }
 
 // Makes a file of `pages` pages in one part.
-fn one_part(alloc: Global, bytes: Vec<u8>, pages: u32) -> Result<Parts, Memory>
+fn one_part(alloc: Global, bytes: Vec<u8>, pages: u32) -> Result<Parts, AllocError>
     requires { length bytes.items ≤ 4096 * pages }
     ensures { IfOk result (λ parts. parts ≡ bytes.items) }
 {

@@ -12,6 +12,3 @@ pub mod laws;
 pub use auditing::{audit_image, sound_by_parts};
 pub use batching::batch;
 pub use images::{ImageFault, read_image, read_parts};
-
-/// The error when memory runs out.
-pub type Memory = std::alloc::AllocError;

@@ -18,10 +18,10 @@ use crate::BuildFault;
 use crate::crew::Crew;
 use crate::sharing::add_tree;
 use crate::subtree::{Loading, Set};
-use metric_laws::{Memory, Metric, Rows};
+use metric_laws::{Metric, Rows};
 use node_page::Head;
 use page_store::{NewTree, Numbering, Placed, RoomFault, settle};
-use std::alloc::Global;
+use std::alloc::{AllocError, Global};
 use tree_shape::{LAST_GENERATION, Live, fill};
 
 // Returns the least height of a tree with room for `count` objects, at most `most` entries to a node.
@@ -40,7 +40,7 @@ fn height_for(most: usize, count: usize) -> u32
 }
 
 // Returns the places of `count` rows.
-fn all_places(alloc: Global, count: usize) -> Result<Vec<u32>, Memory>
+fn all_places(alloc: Global, count: usize) -> Result<Vec<u32>, AllocError>
     requires { count < 2 ^ 32 }
     ensures { IfOk result (λ places. places.items ≡ places_from 0 count) }
 {
@@ -59,7 +59,7 @@ fn new_tree<W: Crew<M>, M: Metric>(
     alloc: Global,
     loading: &Loading<'_, M>,
     live: &Live,
-) -> Result<NewTree, Memory>
+) -> Result<NewTree, AllocError>
     requires ready { W.ready crew.now }
     requires load { IsValidLoad (load_by (M.space loading.now.metric) loading.now) }
     requires some { 0 < length loading.now.rows.now.points }

@@ -9,8 +9,8 @@ ghost use Rattle.bulk_load.specs.Apart.{AreMadeOf};
 use crate::placing::Placing;
 use crate::sharing::Made;
 use crate::subtree::{Loading, Set};
-use metric_laws::{Memory, Metric};
-use std::alloc::Global;
+use metric_laws::Metric;
+use std::alloc::{AllocError, Global};
 use tree_growth::Group;
 
 /// Who looks ahead for the objects of a set. An impl that starts threads is of one metric: what a thread is handed has to be
@@ -27,7 +27,7 @@ pub trait Scout<M: Metric> {
         placing: &Placing<'_, M>,
         counts: &[usize],
         place: usize,
-    ) -> Result<Vec<Option<u32>>, Memory>
+    ) -> Result<Vec<Option<u32>>, AllocError>
         requires ready { ready self.now }
         requires place { place < length placing.now.distances.now.table }
         requires width { placing.now.distances.now.width ≤ 64 }
@@ -45,7 +45,7 @@ pub trait Crew<M: Metric>: Scout<M> {
         loading: &Loading<'_, M>,
         set: &Set<'_>,
         groups: &[Group],
-    ) -> Result<Option<Vec<Result<Made, Memory>>>, Memory>
+    ) -> Result<Option<Vec<Result<Made, AllocError>>>, AllocError>
         requires ready { Self.ready self.now }
         requires load { IsValidLoad (load_by (M.space loading.now.metric) loading.now) }
         requires rows { length loading.now.rows.now.points ≤ 2 ^ 24 }
@@ -71,7 +71,7 @@ impl<M: Metric> Scout<M> for Alone {
         _placing: &Placing<'_, M>,
         _counts: &[usize],
         _place: usize,
-    ) -> Result<Vec<Option<u32>>, Memory> {
+    ) -> Result<Vec<Option<u32>>, AllocError> {
         Ok(Vec::new(alloc))
     }
 }
@@ -83,7 +83,7 @@ impl<M: Metric> Crew<M> for Alone {
         _loading: &Loading<'_, M>,
         _set: &Set<'_>,
         _groups: &[Group],
-    ) -> Result<Option<Vec<Result<Made, Memory>>>, Memory> {
+    ) -> Result<Option<Vec<Result<Made, AllocError>>>, AllocError> {
         Ok(None)
     }
 }

@@ -5,8 +5,8 @@ ghost use Rattle.tree_growth.specs.Groups.{entry};
 ghost use Rattle.tree_growth.specs.Groups.{nearer as nearer_of};
 ghost use Rattle.bulk_load.specs.Measured.{AreMeasurable, measured_to, all_apart, points_of};
 
-use metric_laws::{Memory, Metric, Point, Rows};
-use std::alloc::Global;
+use metric_laws::{Metric, Point, Rows};
+use std::alloc::{AllocError, Global};
 use std::marker::Model;
 
 /// Returns the points of `seeds`, which are places of `set`, a set of rows.
@@ -15,7 +15,7 @@ pub fn centres_at(
     rows: &Rows,
     set: &[u32],
     seeds: &[u32],
-) -> Result<Vec<Point>, Memory>
+) -> Result<Vec<Point>, AllocError>
     requires set { All (λ k. k < length rows.now.points) set.now }
     requires seeds { All (λ k. k < length set.now) seeds.now }
     ensures { IfOk result (λ v. v.items ≡ points_of (points_of rows.now.points set.now) seeds.now) }
@@ -34,7 +34,7 @@ fn add_distances<M: Metric>(
     from: &[u32],
     centres: &[Point],
     apart: &mut Vec<u64>,
-) -> Result<(), Memory>
+) -> Result<(), AllocError>
     ensures { OnOk result (apart.new.items ≡ apart.old.items ++ map ((M.space metric).dist from.now) centres.now) }
 {
     for to in centres {
@@ -48,7 +48,7 @@ pub fn mutual_distances<M: Metric>(
     alloc: Global,
     metric: M,
     centres: &[Point],
-) -> Result<Vec<u64>, Memory>
+) -> Result<Vec<u64>, AllocError>
     ensures { IfOk result (λ v. v.items ≡ all_apart (M.space metric) centres.now) }
 {
     let mut apart = Vec::with_capacity(alloc, centres.len().saturating_mul(centres.len()))?;

@@ -6,13 +6,13 @@ ghost use Rattle.tree_growth.specs.Groups.{entry, in_group, is_candidate, member
 ghost use Rattle.bulk_load.specs.Candidates.{AreCounts, candidates_from, is_nearer};
 
 use crate::distances::Distances;
-use metric_laws::{Memory, Metric};
-use std::alloc::Global;
+use metric_laws::Metric;
+use std::alloc::{AllocError, Global};
 use tree_growth::Member;
 
 /// Counts the objects of each of `groups` groups.
 #[tactic(auto, using(crate::proofs::Received::in_group_more, crate::proofs::Received::in_group_few))]
-fn tally(alloc: Global, placed: &[Member], groups: usize) -> Result<Vec<usize>, Memory>
+fn tally(alloc: Global, placed: &[Member], groups: usize) -> Result<Vec<usize>, AllocError>
     requires { All (λ p. p.group < groups) placed.now }
     ensures len { IfOk result (λ v. vec_len v ≡ groups) }
     ensures each { IfOk result (λ v. AreCounts v.items placed.now) }
@@ -43,7 +43,7 @@ fn candidates<M: Metric>(
     group: usize,
     placed: &[Member],
     counts: &[usize],
-) -> Result<Vec<(u64, usize)>, Memory>
+) -> Result<Vec<(u64, usize)>, AllocError>
     requires group { group < distances.now.width }
     requires placed { length placed.now ≡ length distances.now.table }
     requires groups { All (λ p. p.group < length counts.now) placed.now }
@@ -97,7 +97,7 @@ fn fill_one<M: Metric>(
     group: usize,
     placed: &mut [Member],
     counts: &mut [usize],
-) -> Result<(), Memory>
+) -> Result<(), AllocError>
     requires group { (group < distances.now.width) × (distances.now.width ≤ 64) }
     requires placed { length placed.old ≡ length distances.now.table }
     requires groups { All (λ p. p.group < length counts.old) placed.old }
@@ -130,7 +130,7 @@ pub fn fill_up<M: Metric>(
     distances: &Distances<'_, M>,
     least: usize,
     placed: &mut [Member],
-) -> Result<(), Memory>
+) -> Result<(), AllocError>
     requires width { distances.now.width ≤ 64 }
     requires placed { length placed.old ≡ length distances.now.table }
     requires groups { All (λ p. p.group < distances.now.width) placed.old }

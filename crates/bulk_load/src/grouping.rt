@@ -11,13 +11,13 @@ use crate::crew::Scout;
 use crate::distances::{Distances, centres_at, mutual_distances};
 use crate::filling::fill_up;
 use crate::placing::{Placing, group_number, place_all, seed_places};
-use metric_laws::{Listed, Memory, Metric, Rows};
-use std::alloc::Global;
+use metric_laws::{Listed, Metric, Rows};
+use std::alloc::{AllocError, Global};
 use tree_growth::{Group, Member};
 use tree_shape::Bounds;
 
 // Makes `number` empty lists of members.
-fn empty_lists(alloc: Global, number: usize) -> Result<Vec<Vec<u32>>, Memory>
+fn empty_lists(alloc: Global, number: usize) -> Result<Vec<Vec<u32>>, AllocError>
     ensures { IfOk result (λ v. lists_in v.items ≡ replicate number []) }
 {
     let mut lists = Vec::with_capacity(alloc, number)?;
@@ -28,7 +28,7 @@ fn empty_lists(alloc: Global, number: usize) -> Result<Vec<Vec<u32>>, Memory>
 }
 
 // Appends `row` to the list of `group`.
-fn add_member(lists: &mut Vec<Vec<u32>>, group: usize, row: u32) -> Result<(), Memory>
+fn add_member(lists: &mut Vec<Vec<u32>>, group: usize, row: u32) -> Result<(), AllocError>
     requires { group < vec_len lists.old }
     ensures { OnOk result (lists_in lists.new.items ≡ slice_set (lists_in lists.old.items) group
         (slice_index_or (lists_in lists.old.items) group [] ++ row ∷ [])) }
@@ -43,7 +43,7 @@ fn member_lists(
     groups: usize,
     set: &[u32],
     placed: &[Member],
-) -> Result<Vec<Vec<u32>>, Memory>
+) -> Result<Vec<Vec<u32>>, AllocError>
     requires set { length set.now ≡ length placed.now }
     requires low { All (λ p. p.group < groups) placed.now }
     ensures len { IfOk result (λ v. vec_len v ≡ groups) }
@@ -62,7 +62,7 @@ fn with_seeds(
     seeds: &[u32],
     set: &[u32],
     lists: Vec<Vec<u32>>,
-) -> Result<Vec<Group>, Memory>
+) -> Result<Vec<Group>, AllocError>
     requires { All (λ k. k < length set.now) seeds.now }
     ensures { IfOk result (λ v. v.items ≡ groups_with set.now seeds.now (lists_in lists.items)) }
 {
@@ -82,7 +82,7 @@ fn groups_of(
     seeds: &[u32],
     set: &[u32],
     placed: &[Member],
-) -> Result<Vec<Group>, Memory>
+) -> Result<Vec<Group>, AllocError>
     requires set { length set.now ≡ length placed.now }
     requires seeds { All (λ k. k < length set.now) seeds.now }
     requires low { All (λ p. p.group < length seeds.now) placed.now }
@@ -98,7 +98,7 @@ fn parted<W: Scout<M>, M: Metric>(
     alloc: Global,
     placing: &Placing<'_, M>,
     least: usize,
-) -> Result<Vec<Member>, Memory>
+) -> Result<Vec<Member>, AllocError>
     requires ready { W.ready crew.now }
     requires width { (0 < placing.now.distances.now.width) × (placing.now.distances.now.width ≤ 64) }
     requires seeds { length placing.now.seeds.now ≡ placing.now.distances.now.width }
@@ -130,7 +130,7 @@ pub fn groups<W: Scout<M>, M: Metric>(
     level: u32,
     root: bool,
     fill: &Bounds,
-) -> Result<Vec<Group>, Memory>
+) -> Result<Vec<Group>, AllocError>
     requires ready { W.ready crew.now }
     requires rows { length rows.now.points < 2 ^ 32 }
     requires points { All (λ p. IsTrue ((M.space metric).is_point p)) rows.now.points }

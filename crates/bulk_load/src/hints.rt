@@ -6,9 +6,9 @@ ghost use Rattle.bulk_load.specs.Hints.{IsHint, AreHints};
 
 use crate::crew::Scout;
 use crate::placing::{Placing, nearest};
-use metric_laws::{Memory, Metric};
+use metric_laws::Metric;
 use par_work::share;
-use std::alloc::Global;
+use std::alloc::{AllocError, Global};
 use std::thread::Threads;
 
 /// The number of objects that are looked at together. The fewer they are, the more often threads are started; the more they
@@ -37,7 +37,7 @@ pub fn hints_by_threads<R: Threads + Sync, M: Metric>(
     placing: &Placing<'_, M>,
     counts: &[usize],
     place: usize,
-) -> Result<Vec<Option<u32>>, Memory>
+) -> Result<Vec<Option<u32>>, AllocError>
     requires place { place < length placing.now.distances.now.table }
     requires width { placing.now.distances.now.width ≤ 64 }
     requires counts { length counts.now ≡ placing.now.distances.now.width }
@@ -80,7 +80,7 @@ impl Hints {
         placing: &Placing<'_, M>,
         counts: &[usize],
         place: usize,
-    ) -> Result<(), Memory>
+    ) -> Result<(), AllocError>
         requires ready { W.ready crew.now }
         requires place { place < length placing.now.distances.now.table }
         requires width { placing.now.distances.now.width ≤ 64 }

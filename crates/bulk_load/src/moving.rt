@@ -5,9 +5,8 @@ ghost use Rattle.std.specs.List.{AllByRecursion};
 ghost use Rattle.page_store.specs.Numbers.{number_at};
 ghost use Rattle.bulk_load.specs.Apart.{entry_to, node_to, AreChildrenBelow};
 
-use metric_laws::Memory;
 use page_store::Numbering;
-use std::alloc::Global;
+use std::alloc::{AllocError, Global};
 use tree_shape::{InnerEntries, InnerEntry, Node};
 
 // Gives the child of `entry` its page, where the children's numbers begin at place `first` of all nodes.
@@ -37,7 +36,7 @@ fn moved(
     first: usize,
     many: usize,
     node: Node,
-) -> Result<Node, Memory>
+) -> Result<Node, AllocError>
     requires pages { numbering.now.first ≤ 2 ^ 24 }
     requires few { first + many ≤ 2 ^ 26 }
     requires children { AreChildrenBelow many node }
@@ -63,7 +62,7 @@ pub fn add_nodes(
     numbering: &Numbering<'_>,
     below: Vec<Node>,
     nodes: &mut Vec<Node>,
-) -> Result<u32, Memory>
+) -> Result<u32, AllocError>
     requires pages { numbering.now.first ≤ 2 ^ 24 }
     requires few { length nodes.old.items + length below.items ≤ 2 ^ 26 }
     requires children { AllByRecursion (AreChildrenBelow (length below.items)) below.items }

@@ -8,8 +8,8 @@ ghost use Rattle.bulk_load.specs.Hints.{IsHint, HaveGrown};
 use crate::crew::Scout;
 use crate::distances::Distances;
 use crate::hints::Hints;
-use metric_laws::{Memory, Metric};
-use std::alloc::Global;
+use metric_laws::Metric;
+use std::alloc::{AllocError, Global};
 use tree_growth::Member;
 use tree_shape::Bounds;
 
@@ -41,7 +41,7 @@ pub fn group_number(fill: &Bounds, is_root: bool, room: usize, objects: usize) -
 
 /// Returns the places of the seeds of `groups` groups in a set of `objects` objects.
 #[tactic(auto, using(crate::proofs::Steps::seed_low))]
-pub fn seed_places(alloc: Global, objects: usize, groups: usize) -> Result<Vec<u32>, Memory>
+pub fn seed_places(alloc: Global, objects: usize, groups: usize) -> Result<Vec<u32>, AllocError>
     requires objects { (0 < objects) × (objects < 2 ^ 32) }
     requires groups { (0 < groups) × (groups ≤ 64) }
     ensures is { IfOk result (λ v. v.items ≡ seeds_from objects groups 0 groups) }
@@ -194,7 +194,7 @@ pub fn place_all<W: Scout<M>, M: Metric>(
     crew: &W,
     alloc: Global,
     placing: &Placing<'_, M>,
-) -> Result<Vec<Member>, Memory>
+) -> Result<Vec<Member>, AllocError>
     requires ready { W.ready crew.now }
     requires width { (0 < placing.now.distances.now.width) × (placing.now.distances.now.width ≤ 64) }
     requires seeds { length placing.now.seeds.now ≡ placing.now.distances.now.width }

@@ -9,10 +9,10 @@ ghost use Rattle.bulk_load.specs.Apart.{IsMadeOf, AreMadeOf};
 use crate::crew::{Alone, Crew};
 use crate::moving::add_nodes;
 use crate::subtree::{Loading, Set, add_subtree, group_entry_of, groups_in, push_inner};
-use metric_laws::{Memory, Metric};
+use metric_laws::Metric;
 use page_store::Numbering;
 use par_work::{in_turn, share};
-use std::alloc::Global;
+use std::alloc::{AllocError, Global};
 use std::thread::Threads;
 use tree_growth::Group;
 use tree_shape::{InnerEntry, Node};
@@ -32,7 +32,7 @@ fn made_of<M: Metric>(
     loading: &Loading<'_, M>,
     set: &Set<'_>,
     group: &Group,
-) -> Result<Made, Memory>
+) -> Result<Made, AllocError>
     requires load { IsValidLoad (load_by (M.space loading.now.metric) loading.now) }
     requires rows { length loading.now.rows.now.points ≤ 2 ^ 24 }
     requires seed { IfSome set.now.seed (λ k. k < length loading.now.rows.now.points) }
@@ -70,7 +70,7 @@ pub fn made_by_threads<R: Threads + Sync, M: Metric>(
     loading: &Loading<'_, M>,
     set: &Set<'_>,
     groups: &[Group],
-) -> Result<Vec<Result<Made, Memory>>, Memory>
+) -> Result<Vec<Result<Made, AllocError>>, AllocError>
     requires load { IsValidLoad (load_by (M.space loading.now.metric) loading.now) }
     requires rows { length loading.now.rows.now.points ≤ 2 ^ 24 }
     requires workers { (1 ≤ loading.now.workers) × (loading.now.workers ≤ 64) }
@@ -80,7 +80,7 @@ pub fn made_by_threads<R: Threads + Sync, M: Metric>(
     ensures { IfOk result (λ parts. AreMadeOf (load_by (M.space loading.now.metric) loading.now) set.now.seed
         (set.now.level - 1) groups.now parts.items) }
 {
-    let work = |i: usize| -> Result<Made, Memory>
+    let work = |i: usize| -> Result<Made, AllocError>
         requires load { IsValidLoad (load_by (M.space loading.now.metric) loading.now) }
         requires rows { length loading.now.rows.now.points ≤ 2 ^ 24 }
         requires seed { IfSome set.now.seed (λ k. k < length loading.now.rows.now.points) }
@@ -101,7 +101,7 @@ fn made_in_turn<M: Metric>(
     loading: &Loading<'_, M>,
     set: &Set<'_>,
     groups: &[Group],
-) -> Result<Vec<Result<Made, Memory>>, Memory>
+) -> Result<Vec<Result<Made, AllocError>>, AllocError>
     requires load { IsValidLoad (load_by (M.space loading.now.metric) loading.now) }
     requires rows { length loading.now.rows.now.points ≤ 2 ^ 24 }
     requires seed { IfSome set.now.seed (λ k. k < length loading.now.rows.now.points) }
@@ -110,7 +110,7 @@ fn made_in_turn<M: Metric>(
     ensures { IfOk result (λ parts. AreMadeOf (load_by (M.space loading.now.metric) loading.now) set.now.seed
         (set.now.level - 1) groups.now parts.items) }
 {
-    let work = |i: usize| -> Result<Made, Memory>
+    let work = |i: usize| -> Result<Made, AllocError>
         requires load { IsValidLoad (load_by (M.space loading.now.metric) loading.now) }
         requires rows { length loading.now.rows.now.points ≤ 2 ^ 24 }
         requires seed { IfSome set.now.seed (λ k. k < length loading.now.rows.now.points) }
@@ -131,7 +131,7 @@ fn all_made<W: Crew<M>, M: Metric>(
     loading: &Loading<'_, M>,
     set: &Set<'_>,
     groups: &[Group],
-) -> Result<Vec<Result<Made, Memory>>, Memory>
+) -> Result<Vec<Result<Made, AllocError>>, AllocError>
     requires ready { W.ready crew.now }
     requires load { IsValidLoad (load_by (M.space loading.now.metric) loading.now) }
     requires rows { length loading.now.rows.now.points ≤ 2 ^ 24 }
@@ -157,7 +157,7 @@ pub fn add_tree<W: Crew<M>, M: Metric>(
     loading: &Loading<'_, M>,
     set: &Set<'_>,
     nodes: &mut Vec<Node>,
-) -> Result<u32, Memory>
+) -> Result<u32, AllocError>
     requires ready { W.ready crew.now }
     requires load { IsValidLoad (load_by (M.space loading.now.metric) loading.now) }
     requires rows { length loading.now.rows.now.points ≤ 2 ^ 24 }

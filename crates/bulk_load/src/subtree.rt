@@ -10,9 +10,9 @@ ghost use Rattle.bulk_load.specs.Postorder.{is_top, seed_point, leaf_entry, grou
 
 use crate::crew::Scout;
 use crate::grouping::groups;
-use metric_laws::{Memory, Metric, Point, Rows};
+use metric_laws::{Metric, Point, Rows};
 use page_store::Numbering;
-use std::alloc::Global;
+use std::alloc::{AllocError, Global};
 use tree_growth::Group;
 use tree_shape::{Bounds, InnerEntries, InnerEntry, LeafEntries, LeafEntry, Node};
 
@@ -60,7 +60,7 @@ fn leaf_entry_of<M: Metric>(
     loading: &Loading<'_, M>,
     seed: Option<u32>,
     row: u32,
-) -> Result<LeafEntry, Memory>
+) -> Result<LeafEntry, AllocError>
     requires seed { IfSome seed (λ k. k < length loading.now.rows.now.points) }
     requires row { row < length loading.now.rows.now.points }
     requires tags { length loading.now.tags.now ≡ length loading.now.rows.now.points }
@@ -82,7 +82,7 @@ fn leaf_entries<M: Metric>(
     alloc: Global,
     loading: &Loading<'_, M>,
     set: &Set<'_>,
-) -> Result<Vec<LeafEntry>, Memory>
+) -> Result<Vec<LeafEntry>, AllocError>
     requires seed { IfSome set.now.seed (λ k. k < length loading.now.rows.now.points) }
     requires places { All (λ k. k < length loading.now.rows.now.points) set.now.places.now }
     requires tags { length loading.now.tags.now ≡ length loading.now.rows.now.points }
@@ -121,7 +121,7 @@ pub fn group_entry_of<M: Metric>(
     seed: Option<u32>,
     group: &Group,
     page: u32,
-) -> Result<InnerEntry, Memory>
+) -> Result<InnerEntry, AllocError>
     requires seed { IfSome seed (λ k. k < length loading.now.rows.now.points) }
     requires own { group.now.seed < length loading.now.rows.now.points }
     requires members { All (λ k. k < length loading.now.rows.now.points) group.now.members }
@@ -144,7 +144,7 @@ fn push_node<M: Metric>(
     loading: &Loading<'_, M>,
     node: Node,
     nodes: &mut Vec<Node>,
-) -> Result<u32, Memory>
+) -> Result<u32, AllocError>
     requires first { loading.now.numbering.first ≤ 2 ^ 24 }
     requires few { length nodes.old.items < 2 ^ 26 }
     ensures page { IfOk result (λ page. page ≡ page_by loading.now (length nodes.old.items)) }
@@ -161,7 +161,7 @@ pub fn push_inner<M: Metric>(
     level: u32,
     entries: Vec<InnerEntry>,
     nodes: &mut Vec<Node>,
-) -> Result<u32, Memory>
+) -> Result<u32, AllocError>
     requires level { level ≤ 14 }
     requires first { loading.now.numbering.first ≤ 2 ^ 24 }
     requires few { length nodes.old.items < 2 ^ 26 }
@@ -181,7 +181,7 @@ pub fn groups_in<W: Scout<M>, M: Metric>(
     alloc: Global,
     loading: &Loading<'_, M>,
     set: &Set<'_>,
-) -> Result<Vec<Group>, Memory>
+) -> Result<Vec<Group>, AllocError>
     requires ready { W.ready crew.now }
     requires load { IsValidLoad (load_by (M.space loading.now.metric) loading.now) }
     requires rows { length loading.now.rows.now.points < 2 ^ 32 }
@@ -213,7 +213,7 @@ pub fn add_subtree<W: Scout<M>, M: Metric>(
     loading: &Loading<'_, M>,
     set: &Set<'_>,
     nodes: &mut Vec<Node>,
-) -> Result<u32, Memory>
+) -> Result<u32, AllocError>
     requires ready { W.ready crew.now }
     requires load { IsValidLoad (load_by (M.space loading.now.metric) loading.now) }
     requires rows { length loading.now.rows.now.points < 2 ^ 32 }

@@ -18,5 +18,5 @@ pub use laws::{
     stretches_join, written_is_torn,
 };
 pub use memory_disk::MemoryDisk;
-pub use outside_io::{Failed, Memory};
+pub use outside_io::Failed;
 pub use shared_disk::SharedDisk;

@@ -10,8 +10,8 @@ ghost use Rattle.disk_model.specs.Memory.Laws.{read_may_be_left, places_mix};
 use crate::entry::{Entry, Kind};
 use crate::file::{copy_out, overwrite};
 use crate::record::Record;
-use crate::{Disk, Failed, Memory, SharedDisk};
-use std::alloc::Global;
+use crate::{Disk, Failed, SharedDisk};
+use std::alloc::{AllocError, Global};
 use std::marker::Model;
 
 /// A disk in memory, for tests. Chosen calls of it fail, and it shows the files that a crash at each call may leave. It takes all
@@ -50,7 +50,7 @@ impl MemoryDisk {
         units: u64,
         fails: Vec<u64>,
         stop: Option<u64>,
-    ) -> Result<MemoryDisk, Memory>
+    ) -> Result<MemoryDisk, AllocError>
         requires { length bytes.items ≤ room }
         ensures { IfOk result (λ disk. disk ≡ record {
           first = bytes.items;
@@ -97,7 +97,7 @@ impl MemoryDisk {
     /// Returns a file that a crash within the call number `moment`, or after the last call, may leave. A write with that number
     /// counts as begun, and a sync with that number as not done. With pick 0 each open place holds its byte as of the last sync,
     /// with pick 1 as last written, and with any other pick the byte `pick` modulo 256.
-    pub fn image(&self, alloc: Global, moment: u64, pick: u64) -> Result<Vec<u8>, Memory>
+    pub fn image(&self, alloc: Global, moment: u64, pick: u64) -> Result<Vec<u8>, AllocError>
         requires { moment ≤ self.now.calls }
         ensures shown { IfOk result (λ file. file.items ≡ image_of self.now moment pick) }
         ensures image { IfOk result (λ file. (memory_state self.now).images (clock_at moment self.now) file.items) }
@@ -106,7 +106,7 @@ impl MemoryDisk {
     }
 
     // Returns a disk that holds what a read of this disk gives, and fails at the calls with the same numbers.
-    fn again(&self, alloc: Global) -> Result<MemoryDisk, Memory>
+    fn again(&self, alloc: Global) -> Result<MemoryDisk, AllocError>
         ensures { IfOk result (λ disk. (kept_by disk).read ≡ (kept_by self.now).read) }
     {
         let mut bytes = Vec::new(alloc);

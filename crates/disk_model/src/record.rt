@@ -3,10 +3,9 @@ ghost use Rattle.disk_model.specs.Memory.Record.{noted_of, count_of, past_of, to
 ghost use Rattle.disk_model.specs.Memory.Replay.{IsReplay};
 ghost use Rattle.disk_model.specs.Memory.Images.{Kept, at_rest, replayed, shown, begun};
 
-use crate::Memory;
 use crate::entry::Entry;
 use crate::replay::Replay;
-use std::alloc::Global;
+use std::alloc::{AllocError, Global};
 use std::marker::Model;
 
 /// The record of the calls of a disk in memory. It takes all its memory when it is made.
@@ -30,7 +29,7 @@ impl Model for Record {
 
 impl Record {
     /// Returns an empty record of `units` units.
-    pub fn new(alloc: Global, units: usize) -> Result<Record, Memory>
+    pub fn new(alloc: Global, units: usize) -> Result<Record, AllocError>
         ensures { IfOk result (λ it. it ≡ record { past = []; left = units }) }
     {
         Ok(Record {
@@ -66,7 +65,7 @@ impl Record {
         first: &[u8],
         moment: u64,
         pick: u64,
-    ) -> Result<Vec<u8>, Memory>
+    ) -> Result<Vec<u8>, AllocError>
         ensures { IfOk result (λ file. file.items
             ≡ shown pick (replayed (at_rest first.now) (begun moment self.now.past))) }
     {
@@ -76,7 +75,7 @@ impl Record {
 }
 
 // Replays the entries that have begun, and returns the image.
-fn play(entries: &[Entry], bytes: &[u8], mut replay: Replay, moment: u64) -> Result<Vec<u8>, Memory>
+fn play(entries: &[Entry], bytes: &[u8], mut replay: Replay, moment: u64) -> Result<Vec<u8>, AllocError>
     requires { total entries.now ≡ length bytes.now }
     ensures { IfOk result (λ file. (kept : Kept) → IsReplay replay kept
         → file.items ≡ shown replay.pick (replayed kept (begun moment (past_of entries.now bytes.now)))) }

@@ -5,7 +5,6 @@ ghost use Rattle.disk_model.specs.Memory.Images.{Kept, at_rest, after, shown};
 ghost use Rattle.disk_model.specs.Memory.Record.{count_of, call_of};
 ghost use Rattle.disk_model.specs.Memory.Replay.{IsReplay, IsPainted};
 
-use crate::Memory;
 use crate::entry::Kind;
 use crate::file::overwrite;
 use std::alloc::{AllocError, Global};
@@ -20,7 +19,7 @@ pub struct Replay {
 
 impl Replay {
     /// Starts a replay before the first call, over the file `first`.
-    pub fn new(alloc: Global, first: &[u8], pick: u64) -> Result<Replay, Memory>
+    pub fn new(alloc: Global, first: &[u8], pick: u64) -> Result<Replay, AllocError>
         ensures replay { IfOk result (λ replay. IsReplay replay (at_rest first.now)) }
         ensures pick { IfOk result (λ replay. replay.pick ≡ pick) }
     {
@@ -39,7 +38,7 @@ impl Replay {
     }
 
     /// Replays a call.
-    pub fn apply(&mut self, kind: Kind, bytes: &[u8]) -> Result<(), Memory>
+    pub fn apply(&mut self, kind: Kind, bytes: &[u8]) -> Result<(), AllocError>
         requires { count_of kind ≡ length bytes.now }
         ensures replay { OnOk result ((kept : Kept)
             → IsReplay self.old kept → IsReplay self.new (after kept (call_of kind bytes.now))) }
@@ -53,7 +52,7 @@ impl Replay {
     }
 
     // Replays a write, done or failed.
-    fn redo(&mut self, at: usize, bytes: &[u8], done: bool) -> Result<(), Memory>
+    fn redo(&mut self, at: usize, bytes: &[u8], done: bool) -> Result<(), AllocError>
         ensures replay { OnOk result ((kept : Kept)
             → IsReplay self.old kept → IsReplay self.new (after kept (write at bytes.now done))) }
         ensures pick { self.new.pick ≡ self.old.pick }
@@ -67,7 +66,7 @@ impl Replay {
 }
 
 // Applies a write to the image, as `pick` says.
-fn mark(image: &mut Vec<u8>, at: usize, bytes: &[u8], pick: u64) -> Result<(), Memory>
+fn mark(image: &mut Vec<u8>, at: usize, bytes: &[u8], pick: u64) -> Result<(), AllocError>
     ensures { OnOk result ((kept : Kept) (done : Bool)
         → image.old.items ≡ shown pick kept → length kept.synced ≤ length kept.last
         → image.new.items ≡ shown pick (after kept (write at bytes.now done))) }
@@ -81,7 +80,7 @@ fn mark(image: &mut Vec<u8>, at: usize, bytes: &[u8], pick: u64) -> Result<(), M
     paint(image, at, bytes.len(), (pick % 256) as u8)
 }
 
-fn replace(file: &mut Vec<u8>, bytes: &[u8]) -> Result<(), Memory>
+fn replace(file: &mut Vec<u8>, bytes: &[u8]) -> Result<(), AllocError>
     ensures { OnOk result (file.new.items ≡ bytes.now) }
 {
     file.clear();
@@ -89,7 +88,7 @@ fn replace(file: &mut Vec<u8>, bytes: &[u8]) -> Result<(), Memory>
 }
 
 // Writes `bytes` at place `at`, and fills a gap before them with 0.
-fn rewrite(file: &mut Vec<u8>, at: usize, bytes: &[u8]) -> Result<(), Memory>
+fn rewrite(file: &mut Vec<u8>, at: usize, bytes: &[u8]) -> Result<(), AllocError>
     ensures { OnOk result (Written at bytes.now file.old.items file.new.items) }
 {
     let end = at.checked_add(bytes.len()).ok_or(AllocError)?;
@@ -101,7 +100,7 @@ fn rewrite(file: &mut Vec<u8>, at: usize, bytes: &[u8]) -> Result<(), Memory>
 }
 
 // Writes the byte `value` into `count` places from `at` on, and into a gap before them.
-fn paint(file: &mut Vec<u8>, at: usize, count: usize, value: u8) -> Result<(), Memory>
+fn paint(file: &mut Vec<u8>, at: usize, count: usize, value: u8) -> Result<(), AllocError>
     ensures { OnOk result (IsPainted value at count file.old.items file.new.items) }
 {
     let end = at.checked_add(count).ok_or(AllocError)?;

@@ -6,11 +6,11 @@ ghost use Rattle.fault_lines.specs.Lines.{head_fault_name, node_fault_name, numb
 
 use itoa::Buffer;
 use node_page::{HeadFault, NodeFault};
-use outside_io::Memory;
 use page_store::PageFault;
+use std::alloc::AllocError;
 
 /// Appends a word and a number.
-pub fn push_numbered(word: &[u8], n: u64, out: &mut Vec<u8>) -> Result<(), Memory>
+pub fn push_numbered(word: &[u8], n: u64, out: &mut Vec<u8>) -> Result<(), AllocError>
     ensures { OnOk result (out.new.items ≡ out.old.items ++ numbered word.now n) }
 {
     out.extend_from_slice(word)?;
@@ -44,7 +44,7 @@ pub fn head_fault_name(fault: HeadFault) -> &'static [u8]
 }
 
 /// Appends why a page gave no node.
-pub fn push_page_fault(fault: PageFault, out: &mut Vec<u8>) -> Result<(), Memory>
+pub fn push_page_fault(fault: PageFault, out: &mut Vec<u8>) -> Result<(), AllocError>
     ensures { OnOk result (out.new.items ≡ out.old.items ++ page_fault_text fault) }
 {
     match fault {

@@ -16,8 +16,8 @@ use crate::queues::{
     is_below, is_free, is_held, least_pin, put_free, put_held, release, take_out, unopened,
 };
 use crate::walking::walk_tree;
-use page_store::{Memory, PageFault, Pages};
-use std::alloc::Global;
+use page_store::{PageFault, Pages};
+use std::alloc::{AllocError, Global};
 use std::collections::VecDeque;
 use std::marker::Model;
 use tree_shape::Live;
@@ -127,7 +127,7 @@ impl Free {
     }
 
     /// Returns the `n` least free pages in ascending order, or all where there are fewer. They stay free.
-    pub fn least(&self, alloc: Global, n: usize) -> Result<Vec<u32>, Memory>
+    pub fn least(&self, alloc: Global, n: usize) -> Result<Vec<u32>, AllocError>
         ensures pages { IfOk result (λ pages. pages.items ≡ take n self.now.free) }
         // Free and held pages are in order and apart, and each held page is held by a pin.
         ensures kept { IsKept self.now }
@@ -141,7 +141,7 @@ impl Free {
     }
 
     /// Makes room for `n` pages, so that as many can be given back or left without more memory.
-    pub fn reserve(&mut self, n: usize) -> Result<(), Memory>
+    pub fn reserve(&mut self, n: usize) -> Result<(), AllocError>
         ensures ok { OnOk result (self.new ≡ record self.old { spare = max self.old.spare n }) }
         ensures err { OnErr result (self.new ≡ self.old) }
         ensures enough { n ≤ self.old.spare → IsOk result }
@@ -166,7 +166,7 @@ impl Free {
     }
 
     /// Makes `page` free. A page that is free or held already stays so. Where room is spare it does not run out of memory.
-    pub fn give_back(&mut self, page: u32) -> Result<(), Memory>
+    pub fn give_back(&mut self, page: u32) -> Result<(), AllocError>
         ensures ok { OnOk result (self.new ≡ with_free self.old page) }
         ensures others { self.new ≡ record self.old { free = self.new.free; spare = self.new.spare } }
         ensures err { OnErr result (self.new ≡ self.old) }
@@ -185,7 +185,7 @@ impl Free {
 
     /// Pins `generation` once more: pages that later commits leave are held until it is unpinned as often. No earlier
     /// `leave` named a later generation.
-    pub fn pin(&mut self, generation: u64) -> Result<(), Memory>
+    pub fn pin(&mut self, generation: u64) -> Result<(), AllocError>
         requires { self.old.newest ≤ generation }
         ensures ok { OnOk result (self.new ≡ record self.old { pins = self.old.pins ++ generation ∷ [] }) }
         ensures err { OnErr result (self.new ≡ self.old) }

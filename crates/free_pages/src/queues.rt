@@ -12,8 +12,7 @@ ghost use Rattle.free_pages.specs.Opened.{AreOpened};
 ghost use Rattle.free_pages.specs.Walk.{outside_pages};
 
 use crate::Held;
-use page_store::Memory;
-use std::alloc::Global;
+use std::alloc::{AllocError, Global};
 use std::collections::VecDeque;
 
 // Searches for `page`: `Ok` where it is in `free`, and else `Err` with the place where it belongs.
@@ -168,7 +167,7 @@ pub fn release(free: &mut VecDeque<u32>, held: &mut VecDeque<Held>, least: Optio
 }
 
 /// Returns the pages from 3 up that a walk didn't open.
-pub fn unopened(alloc: Global, opened: &[bool], count: usize) -> Result<VecDeque<u32>, Memory>
+pub fn unopened(alloc: Global, opened: &[bool], count: usize) -> Result<VecDeque<u32>, AllocError>
     requires { length opened.now < 2 ^ 32 }
     ensures outside { IfOk result (λ free. (tree : List ℕ) → AreOpened opened.now tree →
         free.items ≡ outside_pages (length opened.now) tree) }

@@ -6,8 +6,8 @@ ghost use Rattle.free_pages.specs.Opened.{IsUnderWay};
 ghost use Rattle.page_store.specs.Tours.{children};
 ghost use Rattle.free_pages.specs.Walk.{tree_walk, IsWalkFault};
 
-use page_store::{Memory, PageFault, Pages};
-use std::alloc::Global;
+use page_store::{PageFault, Pages};
+use std::alloc::{AllocError, Global};
 use tree_shape::{InnerEntries, Live, Node};
 
 /// A walk by child numbers.
@@ -22,7 +22,7 @@ pub struct Walk {
 }
 
 // Pushes the children of `entries`, the first one topmost.
-fn put_on_top(coming: &mut Vec<u32>, entries: &InnerEntries) -> Result<(), Memory>
+fn put_on_top(coming: &mut Vec<u32>, entries: &InnerEntries) -> Result<(), AllocError>
     ensures { OnOk result (reverse coming.new.items ≡ map (λ e. e.child) entries.now ++ reverse coming.old.items) }
 {
     for index in (0..entries.len()).rev() {
@@ -32,7 +32,7 @@ fn put_on_top(coming: &mut Vec<u32>, entries: &InnerEntries) -> Result<(), Memor
 }
 
 // Pushes the pages that `node` names.
-fn name_children(coming: &mut Vec<u32>, node: &Node) -> Result<(), Memory>
+fn name_children(coming: &mut Vec<u32>, node: &Node) -> Result<(), AllocError>
     ensures { OnOk result (reverse coming.new.items ≡ children node.now ++ reverse coming.old.items) }
 {
     match node {
@@ -50,7 +50,7 @@ fn is_opened(opened: &[bool], page: u32) -> bool
 }
 
 // Begins a walk at the root.
-fn begin(alloc: Global, live: &Live) -> Result<Walk, Memory>
+fn begin(alloc: Global, live: &Live) -> Result<Walk, AllocError>
     ensures few { IfOk result (λ walk. length walk.opened.items < 2 ^ 32) }
     ensures begun { IfOk result (λ walk. (s : Shelf) → IsUnderWay s s live.now walk.count walk.opened.items (reverse walk.coming.items)) }
 {

@@ -6,6 +6,3 @@ mod walking;
 mod wanted;
 
 pub use tagging::{marked_tags, tags_of};
-
-/// The error when memory runs out.
-pub type Memory = std::alloc::AllocError;

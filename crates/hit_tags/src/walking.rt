@@ -13,12 +13,11 @@ ghost use Rattle.log_model.specs.declared.marks.Record.{Record};
 ghost use Rattle.hit_tags.specs.Wanted.{held, TakesIn};
 ghost use Rattle.hit_tags.specs.Steps.{HasFollowed};
 
-use crate::Memory;
 use crate::wanted::Wanted;
 use log_model::{Mark, Record, entry_count};
 use page_store::{PageFault, Pages};
 use scan_model::Hit;
-use std::alloc::Global;
+use std::alloc::{AllocError, Global};
 use tree_shape::{InnerEntries, LeafEntries, Node};
 
 /// A walk from the root, in progress.
@@ -42,7 +41,7 @@ fn note_near(wanted: &mut Wanted, entries: &LeafEntries, marks: &[Mark])
 }
 
 // Puts the pages of the subtrees that are marked Near on the stack, so that the first of them is on top.
-fn push_near(stack: &mut Vec<u32>, entries: &InnerEntries, marks: &[Mark]) -> Result<(), Memory>
+fn push_near(stack: &mut Vec<u32>, entries: &InnerEntries, marks: &[Mark]) -> Result<(), AllocError>
     requires { length marks.now ≡ length entries.now }
     ensures { OnOk result (reverse stack.new.items ≡ map (λ e. e.child) (near_ones entries.now marks.now) ++ reverse stack.old.items) }
 {
@@ -71,7 +70,7 @@ fn passes_over(are_marked: bool, marks: &[Mark]) -> bool
 
 impl Walk {
     /// Makes a walk that needs the root and has met none of the hits' ids.
-    pub fn begin(alloc: Global, root: u32, hits: &[Hit]) -> Result<Self, Memory>
+    pub fn begin(alloc: Global, root: u32, hits: &[Hit]) -> Result<Self, AllocError>
         ensures stack { IfOk result (λ walk. walk.stack.items ≡ root ∷ []) }
         ensures wanted { IfOk result (λ walk. AllByRecursion (λ h. held walk.wanted h.id ≡ Some None) hits.now) }
     {
@@ -82,7 +81,7 @@ impl Walk {
     }
 
     // Notes the objects of a node that are marked Near, and puts the pages of its subtrees that are marked Near on top of the stack.
-    fn take_node(&mut self, node: &Node, marks: &[Mark]) -> Result<(), Memory>
+    fn take_node(&mut self, node: &Node, marks: &[Mark]) -> Result<(), AllocError>
         requires { length marks.now ≡ entry_count node.now }
         ensures objects { OnOk result (TakesIn self.old.wanted (near_objects node.now marks.now) self.new.wanted) }
         ensures pages { OnOk result (reverse self.new.stack.items ≡ near_pages node.now marks.now ++ reverse self.old.stack.items) }

@@ -3,9 +3,8 @@ ghost use Rattle.std.specs.List.{AllByRecursion};
 ghost use Rattle.tree_shape.specs.Entries.{leaf_of};
 ghost use Rattle.hit_tags.specs.Wanted.{Tagging, held, tag_held, TakesIn};
 
-use crate::Memory;
 use scan_model::Hit;
-use std::alloc::Global;
+use std::alloc::{AllocError, Global};
 use std::collections::BTreeMap;
 use std::marker::Model;
 use tree_shape::LeafRef;
@@ -24,7 +23,7 @@ impl Model for Wanted {
 
 impl Wanted {
     /// Returns the ids of the hits, with none met yet.
-    pub fn new(alloc: Global, hits: &[Hit]) -> Result<Self, Memory>
+    pub fn new(alloc: Global, hits: &[Hit]) -> Result<Self, AllocError>
         ensures { IfOk result (λ wanted. AllByRecursion (λ h. held wanted h.id ≡ Some None) hits.now) }
     {
         let mut tags = BTreeMap::new(alloc);
@@ -54,7 +53,7 @@ impl Wanted {
     }
 
     /// Returns the tag of each hit, or 0 where its id was not met.
-    pub fn tags(&self, alloc: Global, hits: &[Hit]) -> Result<Vec<u64>, Memory>
+    pub fn tags(&self, alloc: Global, hits: &[Hit]) -> Result<Vec<u64>, AllocError>
         ensures { IfOk result (λ tags. tags.items ≡ map (λ h. tag_held (held self.now h.id)) hits.now) }
     {
         hits.iter().map(|hit| self.tag(hit.id)).collect(alloc)

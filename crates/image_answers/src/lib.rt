@@ -6,6 +6,3 @@ mod queries;
 
 pub use outcome::Outcome;
 pub use queries::{cached_pages, nearest_on, nearest_outcome, pages_of, range_on, range_outcome};
-
-/// The error when memory runs out.
-pub type Memory = std::alloc::AllocError;

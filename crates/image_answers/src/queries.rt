@@ -9,7 +9,6 @@ ghost use Rattle.page_store.specs.Shelf.{HoldsSame};
 ghost use Rattle.hit_tags.specs.Met.{AreMarked};
 ghost use Rattle.image_answers.specs.Outcomes.{ArePagesOf, IsGivenOf, IsOutcomeOf, IsTagged, outcome_of_fault};
 
-use crate::Memory;
 use crate::outcome::Outcome;
 use hit_tags::marked_tags;
 use log_model::Found;
@@ -40,7 +39,7 @@ pub fn cached_pages<'a, M: Metric>(
     metric: M,
     live: &Live,
     nodes: usize,
-) -> Result<Cached<ImagePages<'a>>, Memory>
+) -> Result<Cached<ImagePages<'a>>, AllocError>
     requires pages { live.now.pages ≤ 2 ^ 24 }
     requires some { 1 ≤ nodes }
     ensures pages { IfOk result (ArePagesOf (M.space metric) live.now (bytes_in image.entry)) }
@@ -51,7 +50,7 @@ pub fn cached_pages<'a, M: Metric>(
 }
 
 // Returns the outcome of a query that met a page without a node.
-fn outcome_of_fault(fault: PageFault) -> Result<Outcome, Memory>
+fn outcome_of_fault(fault: PageFault) -> Result<Outcome, AllocError>
     ensures { result ≡ outcome_of_fault fault }
 {
     match fault {
@@ -80,7 +79,7 @@ fn tagged<P: Pages>(
     live: &Live,
     found: Found,
     tags: bool,
-) -> Result<Outcome, Memory>
+) -> Result<Outcome, AllocError>
     requires marked { IsTrue (P.shelf pages.old).is_known →
         AreMarked (nodes_of (P.shelf pages.old).read) (live.now.root ∷ []) found.log.records }
     ensures same { HoldsSame (P.shelf pages.old) (P.shelf pages.new) }
@@ -106,7 +105,7 @@ pub fn range_on<M: Metric>(
     q: &Point,
     r: u64,
     tags: bool,
-) -> Result<Outcome, Memory>
+) -> Result<Outcome, AllocError>
     requires few { live.now.pages ≤ 2 ^ 24 }
     requires pages { ArePagesOf (M.space metric) live.now (bytes_in pages.old.inner.image) pages.old }
     ensures given { IfOk result (IsGivenOf tags (M.space metric) live.now (bytes_in pages.old.inner.image) (command.Range r q.now)) }
@@ -135,7 +134,7 @@ pub fn nearest_on<M: Metric>(
     q: &Point,
     k: u64,
     tags: bool,
-) -> Result<Outcome, Memory>
+) -> Result<Outcome, AllocError>
     requires few { live.now.pages ≤ 2 ^ 24 }
     requires pages { ArePagesOf (M.space metric) live.now (bytes_in pages.old.inner.image) pages.old }
     requires some { 1 ≤ k }
@@ -163,7 +162,7 @@ pub fn range_outcome<M: Metric>(
     live: &Live,
     q: &Point,
     r: u64,
-) -> Result<Outcome, Memory>
+) -> Result<Outcome, AllocError>
     requires { live.now.pages ≤ 2 ^ 24 }
     ensures { IfOk result (IsOutcomeOf (M.space metric) live.now (bytes_in image.entry) (command.Range r q.now)) }
 {
@@ -179,7 +178,7 @@ pub fn nearest_outcome<M: Metric>(
     live: &Live,
     q: &Point,
     k: u64,
-) -> Result<Outcome, Memory>
+) -> Result<Outcome, AllocError>
     requires pages { live.now.pages ≤ 2 ^ 24 }
     requires some { 1 ≤ k }
     ensures { IfOk result (IsOutcomeOf (M.space metric) live.now (bytes_in image.entry) (command.Nearest k q.now)) }

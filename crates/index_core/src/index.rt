@@ -15,14 +15,14 @@ ghost use Rattle.index_core.specs.Lending.{KeptAgrees};
 ghost use Rattle.index_core.specs.Answers.{HasSearched, IsFoundOn, HasRangeCause, HasReachCause, HasDrawn};
 
 use crate::view::View;
-use crate::{IndexFault, Memory, Shape};
+use crate::{IndexFault, Shape};
 use disk_model::{Disk, Failed};
 use free_pages::Free;
 use log_model::Found;
 use metric_laws::Metric;
 use node_page::Head;
 use shadow_root::OpenFault;
-use std::alloc::Global;
+use std::alloc::{AllocError, Global};
 use std::marker::Model;
 use tree_shape::Live;
 
@@ -154,7 +154,7 @@ impl<M: Metric> Index<M> {
 
     /// Keeps the last `nodes` nodes asked for from now on (at least 1): a page whose node is kept is not read again. What was kept
     /// before is dropped. `Memory` changes nothing.
-    pub fn use_cache(&mut self, alloc: Global, nodes: usize) -> Result<(), Memory>
+    pub fn use_cache(&mut self, alloc: Global, nodes: usize) -> Result<(), AllocError>
         requires { 1 ≤ nodes }
         ensures ok { OnOk result (self.new ≡ record self.old { file = record self.old.file { kept = Some (lru_cache [] nodes) } }) }
         ensures err { OnErr result (self.new ≡ self.old) }

@@ -17,6 +17,3 @@ pub use faults::IndexFault;
 pub use index::Index;
 pub use tree_outline::{Shape, ShapeLine};
 pub use view::View;
-
-/// The error when memory runs out.
-pub type Memory = std::alloc::AllocError;

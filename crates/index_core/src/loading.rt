@@ -15,12 +15,12 @@ ghost use Rattle.index_core.specs.Writing.{HasWritten, IsNumberedFor, IsPlacedFo
 use crate::index::Index;
 use crate::placing::Placement;
 use crate::view::View;
-use crate::{IndexFault, Memory};
+use crate::IndexFault;
 use bulk_load::{BuildFault, Crew, build};
 use disk_model::Disk;
 use free_pages::Free;
 use metric_laws::{Metric, Rows};
-use std::alloc::Global;
+use std::alloc::{AllocError, Global};
 use tree_shape::LAST_GENERATION;
 
 // Maps a load's fault to the index's.
@@ -91,7 +91,7 @@ impl<M: Metric> View<M> {
 }
 
 // Returns the default tags of `rows` rows: their ids.
-fn tags_of(alloc: Global, rows: usize) -> Result<Vec<u64>, Memory>
+fn tags_of(alloc: Global, rows: usize) -> Result<Vec<u64>, AllocError>
     ensures { IfOk result (λ tags. tags.items ≡ ids rows) }
 {
     let mut tags = Vec::with_capacity(alloc, rows)?;

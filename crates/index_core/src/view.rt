@@ -14,7 +14,7 @@ ghost use Rattle.index_core.specs.Answers.{HasSearched, IsFoundOn, HasRangeCause
 
 use crate::faults::answer_of;
 use crate::lending::Lent;
-use crate::{IndexFault, Memory};
+use crate::IndexFault;
 use disk_model::Disk;
 use log_model::Found;
 use metric_laws::{Meter, Metric};
@@ -25,7 +25,7 @@ use page_cache::laws::empty_cache_agrees;
 use page_store::DiskPages;
 use range_search::range;
 use shadow_root::{OpenFault, open};
-use std::alloc::Global;
+use std::alloc::{AllocError, Global};
 use std::marker::Model;
 use tree_outline::{Shape, shape_of};
 use tree_shape::Live;
@@ -136,7 +136,7 @@ impl<M: Metric> View<M> {
 
     /// Keeps the last `nodes` nodes asked for from now on (at least 1): a page whose node is kept is not read again. What was kept
     /// before is dropped. `Memory` changes nothing.
-    pub fn use_cache(&mut self, alloc: Global, nodes: usize) -> Result<(), Memory>
+    pub fn use_cache(&mut self, alloc: Global, nodes: usize) -> Result<(), AllocError>
         requires { 1 ≤ nodes }
         ensures ok { OnOk result (self.new ≡ record self.old { kept = Some (lru_cache [] nodes) }) }
         ensures err { OnErr result (self.new ≡ self.old) }

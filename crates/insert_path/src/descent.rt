@@ -13,9 +13,9 @@ use crate::choice::choose;
 use crate::grew::{Grew, Stem};
 use crate::staging::stage;
 use crate::task::{Spot, Task, Written};
-use metric_laws::{Memory, Point, Ruler};
+use metric_laws::{Point, Ruler};
 use page_store::{PageFault, Pages, own_node};
-use std::alloc::Global;
+use std::alloc::{AllocError, Global};
 use tree_shape::{InnerEntry, LeafEntry, Node};
 
 // Returns the parent distance of `p`.
@@ -55,7 +55,7 @@ fn regrow<R: Ruler>(
     place: usize,
     grew: Grew,
     entries: &mut Vec<InnerEntry>,
-) -> Result<(), Memory>
+) -> Result<(), AllocError>
     requires place { place < length entries.old.items }
     requires near { AllByRecursion IsNear entries.old.items }
     requires small { IsSmall grew }
@@ -90,7 +90,7 @@ fn at_leaf<R: Ruler>(
     spot: &Spot<'_>,
     mut entries: Vec<LeafEntry>,
     nodes: &mut Vec<Node>,
-) -> Result<Grew, Memory>
+) -> Result<Grew, AllocError>
     requires first { task.now.numbering.first ≤ 2 ^ 24 }
     requires few { length nodes.old.items + 2 < 2 ^ 10 }
     requires some { 1 ≤ task.now.bounds.least }
@@ -134,7 +134,7 @@ fn back_at<R: Ruler>(
     spot: &Spot<'_>,
     regrowth: Regrowth,
     nodes: &mut Vec<Node>,
-) -> Result<Grew, Memory>
+) -> Result<Grew, AllocError>
     requires first { task.now.numbering.first ≤ 2 ^ 24 }
     requires few { length nodes.old.items + 2 < 2 ^ 10 }
     requires some { 1 ≤ task.now.bounds.least }

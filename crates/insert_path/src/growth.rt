@@ -11,9 +11,9 @@ use crate::faults::fault_of;
 use crate::grew::{Grew, Stem};
 use crate::staging::stage_node;
 use crate::task::{Spot, Task, Written};
-use metric_laws::{Memory, Ruler};
+use metric_laws::Ruler;
 use page_store::{NewTree, PageFault, Pages};
-use std::alloc::Global;
+use std::alloc::{AllocError, Global};
 use tree_shape::{InnerEntries, InnerEntry, Live, Node};
 
 // Makes the entry of a half in a new root.
@@ -29,7 +29,7 @@ fn entry_in_root(stem: Stem) -> InnerEntry
 }
 
 // Makes the two entries of a new root.
-fn root_entries(alloc: Global, first: Stem, second: Stem) -> Result<InnerEntries, Memory>
+fn root_entries(alloc: Global, first: Stem, second: Stem) -> Result<InnerEntries, AllocError>
     ensures { IfOk result (λ es. es ≡ root_entry first ∷ root_entry second ∷ []) }
 {
     let mut entries = Vec::with_capacity(alloc, 2)?;
@@ -45,7 +45,7 @@ fn stage_root(
     level: u8,
     halves: (Stem, Stem),
     nodes: &mut Vec<Node>,
-) -> Result<u32, Memory>
+) -> Result<u32, AllocError>
     requires first { task.now.numbering.first ≤ 2 ^ 24 }
     requires few { length nodes.old.items < 2 ^ 10 }
     ensures page { IfOk result (λ p. p ≡ number_at task.now.numbering.numbers.now task.now.numbering.first (length nodes.old.items)) }

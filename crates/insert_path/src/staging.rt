@@ -8,9 +8,9 @@ ghost use Rattle.page_store.specs.Numbers.{number_at};
 
 use crate::grew::{Grew, Stem};
 use crate::task::Task;
-use metric_laws::{Memory, Ruler};
+use metric_laws::Ruler;
 use promote_split::{Entry, Half, Halves, split};
-use std::alloc::Global;
+use std::alloc::{AllocError, Global};
 use tree_shape::{InnerEntries, InnerEntry, LeafEntries, LeafEntry, Node};
 
 /// An entry that makes nodes.
@@ -47,7 +47,7 @@ impl NodeEntry for InnerEntry {
 }
 
 // Stages `node` after the others, and returns its page.
-pub fn stage_node(task: &Task<'_>, node: Node, nodes: &mut Vec<Node>) -> Result<u32, Memory>
+pub fn stage_node(task: &Task<'_>, node: Node, nodes: &mut Vec<Node>) -> Result<u32, AllocError>
     requires first { task.now.numbering.first ≤ 2 ^ 24 }
     requires few { length nodes.old.items < 2 ^ 10 }
     ensures page { IfOk result (λ p. p ≡ number_at task.now.numbering.numbers.now task.now.numbering.first (length nodes.old.items)) }
@@ -65,7 +65,7 @@ fn stage_half<E: NodeEntry>(
     level: u8,
     half: Half<E>,
     nodes: &mut Vec<Node>,
-) -> Result<Stem, Memory>
+) -> Result<Stem, AllocError>
     requires first { task.now.numbering.first ≤ 2 ^ 24 }
     requires few { length nodes.old.items < 2 ^ 10 }
     ensures stem { IfOk result (λ s.
@@ -92,7 +92,7 @@ fn stage_halves<E: NodeEntry>(
     level: u8,
     halves: Halves<E>,
     nodes: &mut Vec<Node>,
-) -> Result<Grew, Memory>
+) -> Result<Grew, AllocError>
     requires first { task.now.numbering.first ≤ 2 ^ 24 }
     requires few { length nodes.old.items + 2 < 2 ^ 10 }
     ensures grew { IfOk result (λ g.
@@ -119,7 +119,7 @@ fn stage_split<R: Ruler, E: NodeEntry>(
     level: u8,
     entries: Vec<E>,
     nodes: &mut Vec<Node>,
-) -> Result<Grew, Memory>
+) -> Result<Grew, AllocError>
     requires first { task.now.numbering.first ≤ 2 ^ 24 }
     requires few { length nodes.old.items + 2 < 2 ^ 10 }
     requires some { 1 ≤ task.now.bounds.least }
@@ -147,7 +147,7 @@ pub fn stage<R: Ruler, E: NodeEntry>(
     level: u8,
     entries: Vec<E>,
     nodes: &mut Vec<Node>,
-) -> Result<Grew, Memory>
+) -> Result<Grew, AllocError>
     requires first { task.now.numbering.first ≤ 2 ^ 24 }
     requires few { length nodes.old.items + 2 < 2 ^ 10 }
     requires some { 1 ≤ task.now.bounds.least }

@@ -14,11 +14,11 @@ use fault_lines::push_numbered;
 use job_files::{FAULT_MEMORY, end_at_page, end_with, open_index};
 use node_page::Head;
 use node_page::laws::{fault_is_not_open, one_live_slot};
-use outside_io::{Memory, Sink, Status};
+use outside_io::{Sink, Status};
 use page_cache::laws::empty_cache_agrees;
 use page_cache::{Cached, KEPT_NODES, Kept};
 use page_store::{DiskPages, PageFault};
-use std::alloc::Global;
+use std::alloc::{AllocError, Global};
 use tree_shape::Live;
 
 // Writes the objects of an opened file of version 2.
@@ -48,7 +48,7 @@ fn dump_opened<D: Disk, K: Sink>(
 }
 
 // Returns the line of a tree with an object out of place.
-fn id_text(alloc: Global, id: u32) -> Result<Vec<u8>, Memory>
+fn id_text(alloc: Global, id: u32) -> Result<Vec<u8>, AllocError>
     ensures { IfOk result (λ text. text.items ≡ fault_text (DumpFault.Id id)) }
 {
     let mut text = Vec::new(alloc);

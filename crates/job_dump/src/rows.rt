@@ -5,11 +5,11 @@ ghost use Rattle.rows_text.specs.Texts.{coordinates_text, counted};
 ghost use Rattle.job_dump.specs.Scripts.{row_line};
 
 use fault_lines::push_numbered;
-use outside_io::Memory;
+use std::alloc::AllocError;
 use tree_shape::LeafRef;
 
 // Appends each coordinate after a comma.
-fn push_coordinates(point: &[u32], out: &mut Vec<u8>) -> Result<(), Memory>
+fn push_coordinates(point: &[u32], out: &mut Vec<u8>) -> Result<(), AllocError>
     ensures { OnOk result (out.new.items ≡ out.old.items ++ coordinates_text point.now) }
 {
     for x in point {
@@ -19,7 +19,7 @@ fn push_coordinates(point: &[u32], out: &mut Vec<u8>) -> Result<(), Memory>
 }
 
 /// Appends the line of an object: its tag and its coordinates.
-pub fn push_row(entry: LeafRef, out: &mut Vec<u8>) -> Result<(), Memory>
+pub fn push_row(entry: LeafRef, out: &mut Vec<u8>) -> Result<(), AllocError>
     ensures { OnOk result (out.new.items ≡ out.old.items ++ row_line ((leaf_of entry.entry).tag, (leaf_of entry.entry).point)) }
 {
     push_numbered(b"", entry.tag, out)?;
@@ -28,7 +28,7 @@ pub fn push_row(entry: LeafRef, out: &mut Vec<u8>) -> Result<(), Memory>
 }
 
 /// Appends the head of a script of `count` objects.
-pub fn push_head(count: u32, out: &mut Vec<u8>) -> Result<(), Memory>
+pub fn push_head(count: u32, out: &mut Vec<u8>) -> Result<(), AllocError>
     ensures { OnOk result (out.new.items ≡ out.old.items ++ counted (codes "tload,") count) }
 {
     push_numbered(b"tload,", u64::from(count), out)?;

@@ -6,9 +6,9 @@ ghost use Rattle.outside_io.specs.Sinks.{Tells};
 ghost use Rattle.job_files.specs.Lines.{audit_fault_text, damaged_text, sound_text, rejected_text};
 
 use fault_lines::{push_numbered, push_page_fault};
-use outside_io::{Memory, Sink, Status};
+use outside_io::{Sink, Status};
 use page_store::PageFault;
-use std::alloc::Global;
+use std::alloc::{AllocError, Global};
 use tree_audit::{AuditFault, Audited};
 
 /// The line of an input that could not be read.
@@ -55,7 +55,7 @@ pub fn put_line<K: Sink>(out: &mut K, line: &[u8], status: u8) -> Status
 }
 
 /// Returns the line of a file with a page that gave no node.
-pub fn damaged_text(alloc: Global, fault: PageFault) -> Result<Vec<u8>, Memory>
+pub fn damaged_text(alloc: Global, fault: PageFault) -> Result<Vec<u8>, AllocError>
     ensures { IfOk result (λ text. text.items ≡ damaged_text fault) }
 {
     let mut text = Vec::new(alloc);
@@ -65,7 +65,7 @@ pub fn damaged_text(alloc: Global, fault: PageFault) -> Result<Vec<u8>, Memory>
     Ok(text)
 }
 
-fn push_audit_fault(fault: AuditFault, out: &mut Vec<u8>) -> Result<(), Memory>
+fn push_audit_fault(fault: AuditFault, out: &mut Vec<u8>) -> Result<(), AllocError>
     ensures { OnOk result (out.new.items ≡ out.old.items ++ audit_fault_text fault) }
 {
     match fault {
@@ -98,7 +98,7 @@ fn push_audit_fault(fault: AuditFault, out: &mut Vec<u8>) -> Result<(), Memory>
 }
 
 /// Returns the line of an index that is not sound.
-pub fn rejected_text(alloc: Global, fault: AuditFault) -> Result<Vec<u8>, Memory>
+pub fn rejected_text(alloc: Global, fault: AuditFault) -> Result<Vec<u8>, AllocError>
     ensures { IfOk result (λ text. text.items ≡ rejected_text fault) }
 {
     let mut text = Vec::new(alloc);
@@ -109,7 +109,7 @@ pub fn rejected_text(alloc: Global, fault: AuditFault) -> Result<Vec<u8>, Memory
 }
 
 /// Returns the lines of a sound index.
-pub fn sound_text(alloc: Global, audited: &Audited) -> Result<Vec<u8>, Memory>
+pub fn sound_text(alloc: Global, audited: &Audited) -> Result<Vec<u8>, AllocError>
     ensures { IfOk result (λ text. text.items ≡ sound_text audited.now.objects audited.now.nodes) }
 {
     let mut text = Vec::new(alloc);

@@ -6,12 +6,11 @@ ghost use Rattle.job_files.specs.Lines.{node_text, or_dash, point_text, shape_te
 
 use fault_lines::push_numbered;
 use metric_laws::Point;
-use outside_io::Memory;
-use std::alloc::Global;
+use std::alloc::{AllocError, Global};
 use tree_outline::{Shape, ShapeLine};
 
 // Appends each coordinate after a comma.
-fn push_after_commas(point: &[u32], out: &mut Vec<u8>) -> Result<(), Memory>
+fn push_after_commas(point: &[u32], out: &mut Vec<u8>) -> Result<(), AllocError>
     ensures { OnOk result (out.new.items ≡ out.old.items ++ coordinates_text point.now) }
 {
     for x in point {
@@ -21,7 +20,7 @@ fn push_after_commas(point: &[u32], out: &mut Vec<u8>) -> Result<(), Memory>
 }
 
 // Appends a point's coordinates, joined by commas.
-fn push_point(point: &[u32], out: &mut Vec<u8>) -> Result<(), Memory>
+fn push_point(point: &[u32], out: &mut Vec<u8>) -> Result<(), AllocError>
     ensures { OnOk result (out.new.items ≡ out.old.items ++ point_text point.now) }
 {
     let Some((first, rest)) = point.split_first() else {
@@ -32,7 +31,7 @@ fn push_point(point: &[u32], out: &mut Vec<u8>) -> Result<(), Memory>
 }
 
 // Appends the centre of a node's region; the root has none.
-fn push_centre(centre: Option<&Point>, out: &mut Vec<u8>) -> Result<(), Memory>
+fn push_centre(centre: Option<&Point>, out: &mut Vec<u8>) -> Result<(), AllocError>
     ensures { OnOk result (out.new.items ≡ out.old.items ++ or_dash point_text (option_copied centre.entry)) }
 {
     match centre {
@@ -42,7 +41,7 @@ fn push_centre(centre: Option<&Point>, out: &mut Vec<u8>) -> Result<(), Memory>
 }
 
 // Appends the covering radius of a node's region; the root has none.
-fn push_radius(radius: Option<u64>, out: &mut Vec<u8>) -> Result<(), Memory>
+fn push_radius(radius: Option<u64>, out: &mut Vec<u8>) -> Result<(), AllocError>
     ensures { OnOk result (out.new.items ≡ out.old.items ++ or_dash decimal radius) }
 {
     match radius {
@@ -51,7 +50,7 @@ fn push_radius(radius: Option<u64>, out: &mut Vec<u8>) -> Result<(), Memory>
     }
 }
 
-fn push_node(line: &ShapeLine, out: &mut Vec<u8>) -> Result<(), Memory>
+fn push_node(line: &ShapeLine, out: &mut Vec<u8>) -> Result<(), AllocError>
     ensures { OnOk result (out.new.items ≡ out.old.items ++ node_text line.now) }
 {
     push_numbered(b"", u64::from(line.level), out)?;
@@ -63,7 +62,7 @@ fn push_node(line: &ShapeLine, out: &mut Vec<u8>) -> Result<(), Memory>
     out.extend_from_slice(b"\n")
 }
 
-fn push_nodes(lines: &[ShapeLine], out: &mut Vec<u8>) -> Result<(), Memory>
+fn push_nodes(lines: &[ShapeLine], out: &mut Vec<u8>) -> Result<(), AllocError>
     ensures { OnOk result (out.new.items ≡ out.old.items ++ flat_map node_text lines.now) }
 {
     for line in lines {
@@ -73,7 +72,7 @@ fn push_nodes(lines: &[ShapeLine], out: &mut Vec<u8>) -> Result<(), Memory>
 }
 
 /// Returns the lines of a tree.
-pub fn shape_text(alloc: Global, shape: &Shape) -> Result<Vec<u8>, Memory>
+pub fn shape_text(alloc: Global, shape: &Shape) -> Result<Vec<u8>, AllocError>
     requires { shape.now.nodes ≡ length shape.now.lines }
     ensures { IfOk result (λ text. text.items ≡ shape_text shape.now.height shape.now.objects shape.now.lines) }
 {

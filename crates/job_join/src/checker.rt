@@ -4,10 +4,9 @@ use job_files::logs::{Checker, LogStop};
 use log_model::JoinLog;
 use log_verify::JoinVerdict;
 use metric_mix::MixSpace;
-use outside_io::Memory;
 use page_store::Pages;
 use prune_log::{LogFault, decode_join_frames};
-use std::alloc::Global;
+use std::alloc::{AllocError, Global};
 use tree_shape::Live;
 
 /// Judges joins' logs by the pages of two trees.
@@ -99,11 +98,11 @@ impl<P: Pages, Q: Pages> Checker for JoinChecker<'_, '_, P, Q> {
         decode_join_frames(alloc, bytes)
     }
 
-    fn push_verdict(why: JoinVerdict, out: &mut Vec<u8>) -> Result<(), Memory> {
+    fn push_verdict(why: JoinVerdict, out: &mut Vec<u8>) -> Result<(), AllocError> {
         push_verdict(why, out)
     }
 
-    fn push_answers(_alloc: Global, log: JoinLog, out: &mut Vec<u8>) -> Result<(), Memory> {
+    fn push_answers(_alloc: Global, log: JoinLog, out: &mut Vec<u8>) -> Result<(), AllocError> {
         push_answers(log, out)
     }
 

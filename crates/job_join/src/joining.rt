@@ -18,13 +18,13 @@ use disk_model::Disk;
 use job_files::{FAULT_DISK, FAULT_MEMORY, damaged_text, end_with, put_line, space_of};
 use log_model::Joined;
 use metric_join::{JoinFault, join};
-use metric_laws::{Memory, Meter};
+use metric_laws::Meter;
 use outside_io::{Sink, Status};
 use page_cache::laws::empty_cache_agrees;
 use page_cache::{Cached, KEPT_NODES, Kept};
 use page_store::{DiskPages, PageFault};
 use prune_log::{encode_join_log, frame};
-use std::alloc::Global;
+use std::alloc::{AllocError, Global};
 
 /// Returns the join of two opened files of one space.
 pub fn join_opened<D: Disk, E: Disk>(
@@ -69,7 +69,7 @@ pub fn join_opened<D: Disk, E: Disk>(
 }
 
 // Returns the lines of a join's pairs, and the frame of its log.
-fn joined_texts(alloc: Global, joined: Joined) -> Result<(Vec<u8>, Vec<u8>), Memory>
+fn joined_texts(alloc: Global, joined: Joined) -> Result<(Vec<u8>, Vec<u8>), AllocError>
     requires { IsValidJoinLog joined.log }
     ensures lines { IfOk result (λ texts. texts.0.items ≡ pairs_text joined.pairs) }
     ensures framed { IfOk result (λ texts. texts.1.items ≡ frame_bytes (join_log_bytes joined.log)) }

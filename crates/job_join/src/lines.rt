@@ -7,12 +7,12 @@ use job_files::logs::push_state;
 use log_model::JoinLog;
 use log_verify::JoinVerdict;
 use metric_laws::Listed;
-use outside_io::Memory;
 use rows_text::{Reply, reply_text};
 use scan_model::Pair;
+use std::alloc::AllocError;
 
 /// Appends the lines of a join's pairs.
-pub fn push_pairs(pairs: Listed<Pair>, out: &mut Vec<u8>) -> Result<(), Memory>
+pub fn push_pairs(pairs: Listed<Pair>, out: &mut Vec<u8>) -> Result<(), AllocError>
     ensures { OnOk result (out.new.items ≡ out.old.items ++ pairs_text pairs) }
 {
     reply_text(&Reply::Pairs(pairs), false, out)
@@ -26,7 +26,7 @@ pub fn side_name(right: bool) -> &'static [u8]
 }
 
 /// Appends why a log is rejected.
-pub fn push_verdict(why: JoinVerdict, out: &mut Vec<u8>) -> Result<(), Memory>
+pub fn push_verdict(why: JoinVerdict, out: &mut Vec<u8>) -> Result<(), AllocError>
     ensures { OnOk result (out.new.items ≡ out.old.items ++ verdict_text why) }
 {
     match why {
@@ -55,7 +55,7 @@ pub fn push_verdict(why: JoinVerdict, out: &mut Vec<u8>) -> Result<(), Memory>
 }
 
 /// Appends the radius of a join and the lines of its answers.
-pub fn push_answers(log: JoinLog, out: &mut Vec<u8>) -> Result<(), Memory>
+pub fn push_answers(log: JoinLog, out: &mut Vec<u8>) -> Result<(), AllocError>
     ensures { OnOk result (out.new.items ≡ out.old.items ++ join_words.answers log) }
 {
     push_numbered(b"join,", log.r, out)?;

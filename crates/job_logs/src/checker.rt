@@ -2,10 +2,9 @@ use job_files::logs::{Checker, LogStop, first_fault, push_answers, push_verdict}
 use log_model::Log;
 use log_verify::Verdict;
 use metric_mix::MixSpace;
-use outside_io::Memory;
 use page_store::Pages;
 use prune_log::{LogFault, decode_frames};
-use std::alloc::Global;
+use std::alloc::{AllocError, Global};
 use tree_shape::Live;
 
 /// Judges query logs by the pages of a tree.
@@ -72,11 +71,11 @@ impl<P: Pages> Checker for LogChecker<'_, P> {
         decode_frames(alloc, bytes)
     }
 
-    fn push_verdict(why: Verdict, out: &mut Vec<u8>) -> Result<(), Memory> {
+    fn push_verdict(why: Verdict, out: &mut Vec<u8>) -> Result<(), AllocError> {
         push_verdict(why, out)
     }
 
-    fn push_answers(alloc: Global, log: Log, out: &mut Vec<u8>) -> Result<(), Memory> {
+    fn push_answers(alloc: Global, log: Log, out: &mut Vec<u8>) -> Result<(), AllocError> {
         let hits = log.answers;
         push_answers(alloc, &log.query, hits, out)
     }

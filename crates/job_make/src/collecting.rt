@@ -6,13 +6,13 @@ ghost use Rattle.tree_shape.specs.Tree.{IsSoundTree, leaf_entries, objects};
 ghost use Rattle.page_store.specs.Reading.{nodes_of};
 ghost use Rattle.page_store.specs.Shelf.{HoldsSame, IsPassing};
 
-use page_store::{Memory, PageFault, Pages, SharedNode};
+use page_store::{PageFault, Pages, SharedNode};
 use page_tour::Tour;
-use std::alloc::Global;
+use std::alloc::{AllocError, Global};
 use tree_shape::{LeafEntry, Live, Node};
 
 // Appends the objects of a node; an inner node has none.
-fn push_objects(alloc: Global, node: SharedNode, found: &mut Vec<LeafEntry>) -> Result<(), Memory>
+fn push_objects(alloc: Global, node: SharedNode, found: &mut Vec<LeafEntry>) -> Result<(), AllocError>
     ensures { OnOk result (found.new.items ≡ found.old.items ++ leaf_entries (Some node)) }
 {
     match node.into_value(alloc)? {

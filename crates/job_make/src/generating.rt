@@ -15,7 +15,6 @@ ghost use Rattle.job_make.specs.Filling.{EndsUnfilled, IsFilled};
 ghost use Rattle.job_make.specs.Generator.{generated_rows};
 ghost use Rattle.job_make.specs.Jobs.{Generates, IsFillStatus, IsFilledSince, IsUnfilled, summary};
 
-use crate::Memory;
 use crate::asking::{Tally, ask_all, page_fault};
 use crate::filling::{FillFault, Objects, fill};
 use crate::generator::generated_rows;
@@ -33,7 +32,7 @@ use node_page::Head;
 use outside_io::{Sink, Status};
 use page_store::PageFault;
 use shadow_root::{CreateFault, create};
-use std::alloc::Global;
+use std::alloc::{AllocError, Global};
 use tree_outline::Shape;
 
 // Ends a job whose new index could not be filled.
@@ -106,7 +105,7 @@ pub fn make_filled<W: Crew<MixSpace>, D: Disk, K: Sink>(
 }
 
 /// Appends a line with a word and a number.
-pub fn push_counted(word: &[u8], n: u64, out: &mut Vec<u8>) -> Result<(), Memory>
+pub fn push_counted(word: &[u8], n: u64, out: &mut Vec<u8>) -> Result<(), AllocError>
     ensures { OnOk result (out.new.items ≡ out.old.items ++ counted word.now n) }
 {
     push_numbered(word, n, out)?;
@@ -114,7 +113,7 @@ pub fn push_counted(word: &[u8], n: u64, out: &mut Vec<u8>) -> Result<(), Memory
 }
 
 // Returns the lines on a generated index.
-fn summary_text(alloc: Global, shape: &Shape, tally: Tally) -> Result<Vec<u8>, Memory>
+fn summary_text(alloc: Global, shape: &Shape, tally: Tally) -> Result<Vec<u8>, AllocError>
     ensures { IfOk result (λ text. text.items ≡ summary shape.now.objects shape.now.nodes shape.now.height tally.hits tally.accepted) }
 {
     let mut text = Vec::new(alloc);
@@ -174,7 +173,7 @@ pub struct Generation {
 
 // Returns the first `count` numbers from 0 on.
 #[tactic(auto, using(crate::proofs::RowsMore::number_more))]
-fn ids(alloc: Global, count: u32) -> Result<Vec<u64>, Memory>
+fn ids(alloc: Global, count: u32) -> Result<Vec<u64>, AllocError>
     ensures { IfOk result (λ ids. ids.items ≡ range_with_len 0 count) }
 {
     let mut ids = Vec::new(alloc);
@@ -185,7 +184,7 @@ fn ids(alloc: Global, count: u32) -> Result<Vec<u64>, Memory>
 }
 
 // Returns the generated rows as objects. The tag of each row is its number.
-fn generated_objects(alloc: Global, asked: &Generation) -> Result<Objects, Memory>
+fn generated_objects(alloc: Global, asked: &Generation) -> Result<Objects, AllocError>
     ensures rows { IfOk result (λ o.
         o.rows ≡ record { dimension = asked.now.head.dim; points = generated_rows asked.now.seed asked.now.head.dim asked.now.count }) }
     ensures tags { IfOk result (λ o. o.tags.items ≡ range_with_len 0 asked.now.count) }

@@ -2,9 +2,8 @@
 ghost use Rattle.std.specs.Prelude.{◌≡◌, ◌≤◌, ◌<◌, ◌^◌, length, IfOk, OnOk};
 ghost use Rattle.job_make.specs.Generator.{coordinate, generated_row, generated_rows};
 
-use crate::Memory;
 use metric_laws::Rows;
-use std::alloc::Global;
+use std::alloc::{AllocError, Global};
 
 // Returns coordinate `j` of row `i`.
 fn coordinate(seed: u32, i: u32, j: u8) -> u32
@@ -16,7 +15,7 @@ fn coordinate(seed: u32, i: u32, j: u8) -> u32
 
 // Replaces `row` by row `i`.
 #[tactic(auto, using(crate::proofs::RowsMore::coordinate_more, crate::proofs::RowsMore::row_length))]
-fn fill_row(seed: u32, dim: u8, i: u32, row: &mut Vec<u32>) -> Result<(), Memory>
+fn fill_row(seed: u32, dim: u8, i: u32, row: &mut Vec<u32>) -> Result<(), AllocError>
     ensures row { OnOk result (row.new.items ≡ generated_row seed dim i) }
     ensures length { OnOk result (length row.new.items ≡ dim) }
 {
@@ -30,7 +29,7 @@ fn fill_row(seed: u32, dim: u8, i: u32, row: &mut Vec<u32>) -> Result<(), Memory
 /// Returns the first `count` rows of `dim` coordinates that the generator makes with the seed `seed`. Coordinate j of row i is `((i
 /// + 1) * (2 * j + 3) * 40503 + seed * 7919) mod 65536`.
 #[tactic(auto, using(crate::proofs::RowsMore::row_more))]
-pub fn generated_rows(alloc: Global, seed: u32, dim: u8, count: u32) -> Result<Rows, Memory>
+pub fn generated_rows(alloc: Global, seed: u32, dim: u8, count: u32) -> Result<Rows, AllocError>
     ensures points { IfOk result (λ rows. rows.points ≡ generated_rows seed dim count) }
     ensures dimension { IfOk result (λ rows. rows.dimension ≡ dim) }
 {

@@ -13,6 +13,3 @@ pub use filling::{FillFault, Objects, fill};
 pub use generating::{Generation, generate_index};
 pub use generator::generated_rows;
 pub use migrating::migrate_index;
-
-/// The error when memory runs out.
-pub type Memory = std::alloc::AllocError;

@@ -5,12 +5,11 @@ ghost use Rattle.page_store.specs.Reading.{nodes_of};
 ghost use Rattle.page_store.specs.Shelf.{HoldsSame};
 ghost use Rattle.job_make.specs.Ordering.{AreInSpace, AreNumbered, HasTakingCause, rejection};
 
-use crate::Memory;
 use crate::collecting::collect;
 use crate::filling::Objects;
 use metric_laws::{Metric, Rows};
 use page_store::{PageFault, Pages};
-use std::alloc::Global;
+use std::alloc::{AllocError, Global};
 use tree_audit::AuditFault;
 use tree_shape::laws::objects_fit;
 use tree_shape::{LeafEntry, Live};
@@ -35,7 +34,7 @@ fn is_next<M: Metric>(metric: &M, entry: &LeafEntry, id: usize) -> bool
 }
 
 // Appends an object. After an `Err` the objects may be anything.
-fn put_last(objects: &mut Objects, entry: &LeafEntry) -> Result<(), Memory>
+fn put_last(objects: &mut Objects, entry: &LeafEntry) -> Result<(), AllocError>
     requires { length entry.now.point ≡ objects.old.rows.dimension }
     ensures rows { OnOk result (objects.new.rows ≡ record objects.old.rows { points = objects.old.rows.points ++ entry.now.point ∷ [] }) }
     ensures tags { OnOk result (objects.new.tags.items ≡ objects.old.tags.items ++ entry.now.tag ∷ []) }

@@ -27,14 +27,14 @@ use job_files::space_of;
 use log_model::{Log, Record};
 use log_verify::Verdict;
 use node_page::Head;
-use outside_io::{Memory, Sink, Source, Status};
+use outside_io::{Sink, Source, Status};
 use page_cache::laws::empty_cache_agrees;
 use page_cache::{Cached, KEPT_NODES, Kept};
 use page_store::DiskPages;
 use prune_log::{LogFault, decode_frames, frame};
 use seal_log::laws::carried_logs_are_accepted;
 use seal_log::{ProofFault, SealFault, Tree, carry, seal};
-use std::alloc::Global;
+use std::alloc::{AllocError, Global};
 use tree_shape::Live;
 
 // Returns the first fault of a log over an opened index, and the cache of its pages.
@@ -76,7 +76,7 @@ fn are_within(records: &[Record], pages: u32) -> bool
 }
 
 // Returns the line of a carried log.
-fn carried_text(alloc: Global, frame: u64) -> Result<Vec<u8>, Memory>
+fn carried_text(alloc: Global, frame: u64) -> Result<Vec<u8>, AllocError>
     ensures { IfOk result (λ text. text.items ≡ carried_line frame) }
 {
     let mut text = Vec::new(alloc);

@@ -5,12 +5,11 @@ ghost use Rattle.job_seal.specs.Proofs.{end_text, proof_fault_text, proved_frame
 
 use fault_lines::{head_fault_name, push_numbered};
 use job_files::logs::{log_fault_name, push_answers, push_frame, push_verdict};
-use outside_io::Memory;
 use seal_log::{ProofFault, Proved};
-use std::alloc::Global;
+use std::alloc::{AllocError, Global};
 
 // Appends why a carried log is rejected.
-fn push_proof_fault(why: ProofFault, out: &mut Vec<u8>) -> Result<(), Memory>
+fn push_proof_fault(why: ProofFault, out: &mut Vec<u8>) -> Result<(), AllocError>
     ensures { OnOk result (out.new.items ≡ out.old.items ++ proof_fault_text why) }
 {
     match why {
@@ -36,7 +35,7 @@ fn push_proof_fault(why: ProofFault, out: &mut Vec<u8>) -> Result<(), Memory>
 }
 
 /// Returns the line of a frame that is rejected for the reason `why`.
-pub fn rejected_text(alloc: Global, frame: u64, why: ProofFault) -> Result<Vec<u8>, Memory>
+pub fn rejected_text(alloc: Global, frame: u64, why: ProofFault) -> Result<Vec<u8>, AllocError>
     ensures { IfOk result (λ text. text.items ≡ rejected_line frame (proof_fault_text why)) }
 {
     let mut text = Vec::new(alloc);
@@ -48,7 +47,7 @@ pub fn rejected_text(alloc: Global, frame: u64, why: ProofFault) -> Result<Vec<u
 }
 
 /// Returns the lines of a frame whose carried log is accepted and shows `proved`.
-pub fn proved_text(alloc: Global, frame: u64, proved: Proved) -> Result<Vec<u8>, Memory>
+pub fn proved_text(alloc: Global, frame: u64, proved: Proved) -> Result<Vec<u8>, AllocError>
     ensures { IfOk result (λ text. text.items ≡ proved_frame frame proved.query proved.answers) }
 {
     let mut text = Vec::new(alloc);

@@ -9,12 +9,12 @@ ghost use Rattle.job_seal.specs.Seals.{EndsSealed, IsSealStatus, Seals, sealed_t
 use crate::opening::open_small;
 use disk_model::Disk;
 use job_files::{FAULT_DISK, FAULT_MEMORY, audit_opened, end_rejected, end_with, put_line};
-use outside_io::{Memory, Sink, Status};
+use outside_io::{Sink, Status};
 use seal_log::{SealFault, seal};
-use std::alloc::Global;
+use std::alloc::{AllocError, Global};
 
 // Returns the line of a sealed file.
-fn sealed_text(alloc: Global, root: &[u8; 32]) -> Result<Vec<u8>, Memory>
+fn sealed_text(alloc: Global, root: &[u8; 32]) -> Result<Vec<u8>, AllocError>
     ensures { IfOk result (λ text. text.items ≡ sealed_text root.now) }
 {
     let digits = hex::encode(alloc, root)?;

@@ -14,7 +14,7 @@ use fault_lines::push_numbered;
 use log_model::{Mark, is_ruled_out};
 use metric_laws::{Metric, centre_test};
 use metric_mix::MixSpace;
-use outside_io::Memory;
+use std::alloc::AllocError;
 use tree_shape::{InnerRef, LeafRef};
 
 // What entries are tested by.
@@ -38,7 +38,7 @@ pub struct Tested {
 }
 
 /// Appends two blanks for each step.
-pub fn push_indent(depth: u32, out: &mut Vec<u8>) -> Result<(), Memory>
+pub fn push_indent(depth: u32, out: &mut Vec<u8>) -> Result<(), AllocError>
     ensures { OnOk result (out.new.items ≡ out.old.items ++ indent depth) }
 {
     for _step in 0..depth {
@@ -54,7 +54,7 @@ pub fn push_place(
     word: &[u8],
     number: u32,
     out: &mut Vec<u8>,
-) -> Result<(), Memory>
+) -> Result<(), AllocError>
     ensures { OnOk result
         (out.new.items ≡ out.old.items ++ (indent depth ++ decimal place ++ numbered word.now number ++ space)) }
 {
@@ -125,7 +125,7 @@ pub fn show_object(
     entry: LeafRef,
     mark: Mark,
     out: &mut Vec<u8>,
-) -> Result<bool, Memory>
+) -> Result<bool, AllocError>
     requires { coming.depth + 1 < 2 ^ 32 }
     ensures line { OnOk result (out.new.items ≡ out.old.items ++
         object_line (search_by gauge.entry) coming place (leaf_of entry.entry) mark) }
@@ -152,7 +152,7 @@ pub fn show_subtree(
     entry: InnerRef,
     mark: Mark,
     out: &mut Vec<u8>,
-) -> Result<Tested, Memory>
+) -> Result<Tested, AllocError>
     requires { coming.depth + 1 < 2 ^ 32 }
     ensures line { OnOk result (out.new.items ≡ out.old.items ++
         subtree_line (search_by gauge.entry) coming place (inner_of entry.entry) mark) }

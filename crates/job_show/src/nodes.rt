@@ -12,11 +12,11 @@ use crate::shown::Walk;
 use crate::{Coming, Counts};
 use fault_lines::push_numbered;
 use log_model::{Mark, Need};
-use outside_io::Memory;
+use std::alloc::AllocError;
 use tree_shape::{InnerEntries, LeafEntries, Node};
 
 // Appends the line of an opened node.
-fn push_node(depth: u32, page: u32, level: u8, out: &mut Vec<u8>) -> Result<(), Memory>
+fn push_node(depth: u32, page: u32, level: u8, out: &mut Vec<u8>) -> Result<(), AllocError>
     ensures { OnOk result (out.new.items ≡ out.old.items ++ node_line depth page level) }
 {
     push_indent(depth, out)?;
@@ -32,7 +32,7 @@ fn show_leaf(
     entries: &LeafEntries,
     marks: &[Mark],
     out: &mut Vec<u8>,
-) -> Result<bool, Memory>
+) -> Result<bool, AllocError>
     requires long { length marks.now ≡ length entries.now }
     requires deep { coming.depth + 1 < 2 ^ 32 }
     ensures lines { OnOk result (out.new.items ≡ out.old.items ++
@@ -49,7 +49,7 @@ fn show_leaf(
 }
 
 // Appends `item` where its entry is marked Near.
-fn push_near(items: &mut Vec<Coming>, mark: Mark, item: Coming) -> Result<(), Memory>
+fn push_near(items: &mut Vec<Coming>, mark: Mark, item: Coming) -> Result<(), AllocError>
     ensures { OnOk result (items.new.items ≡ items.old.items ++ near_ones (item ∷ []) (mark ∷ [])) }
 {
     match mark {
@@ -66,7 +66,7 @@ fn show_inner(
     entries: &InnerEntries,
     marks: &[Mark],
     walk: &mut Walk,
-) -> Result<bool, Memory>
+) -> Result<bool, AllocError>
     requires long { length marks.now ≡ length entries.now }
     requires deep { coming.depth + 1 < 2 ^ 32 }
     ensures lines { OnOk result (walk.new.lines.items ≡ walk.old.lines.items ++
@@ -102,7 +102,7 @@ fn show_entries(
     node: &Node,
     marks: &[Mark],
     walk: &mut Walk,
-) -> Result<bool, Memory>
+) -> Result<bool, AllocError>
     requires long { length marks.now ≡ entry_count node.now }
     requires deep { coming.depth + 1 < 2 ^ 32 }
     ensures lines { OnOk result (walk.new.lines.items ≡ walk.old.lines.items ++
@@ -144,7 +144,7 @@ pub fn count_marks(counts: Counts, marks: &[Mark]) -> Counts
 }
 
 // Puts the needed pages on the stack, so that the first of them is on top.
-fn put_on_top(stack: &mut Vec<Coming>, needs: &mut Vec<Coming>) -> Result<(), Memory>
+fn put_on_top(stack: &mut Vec<Coming>, needs: &mut Vec<Coming>) -> Result<(), AllocError>
     ensures { OnOk result (reverse stack.new.items ≡ needs.old.items ++ reverse stack.old.items) }
 {
     while let Some(coming) = needs.pop() {
@@ -154,7 +154,7 @@ fn put_on_top(stack: &mut Vec<Coming>, needs: &mut Vec<Coming>) -> Result<(), Me
 }
 
 // Goes on to the pages that the node needs, or ends the walk.
-fn go_on(walk: &mut Walk, goes: bool) -> Result<(), Memory>
+fn go_on(walk: &mut Walk, goes: bool) -> Result<(), AllocError>
     ensures stack { OnOk result (reverse walk.new.stack.items ≡
         (if goes then walk.old.needs.items ++ reverse walk.old.stack.items else [])) }
     ensures lines { walk.new.lines.items ≡ walk.old.lines.items }
@@ -174,7 +174,7 @@ pub fn show_node(
     node: &Node,
     marks: &[Mark],
     walk: &mut Walk,
-) -> Result<(), Memory>
+) -> Result<(), AllocError>
     requires long { length marks.now ≡ entry_count node.now }
     requires deep { coming.depth + 1 < 2 ^ 32 }
     requires small { AreSmall (with_marks marks.now walk.old.counts) }

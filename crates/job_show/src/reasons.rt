@@ -5,7 +5,7 @@ ghost use Rattle.job_show.specs.Reasons.{gap_text, radius_or_zero, reach_text, r
 use fault_lines::push_numbered;
 use log_model::Mark;
 use metric_laws::{centre_test, parent_test};
-use outside_io::Memory;
+use std::alloc::AllocError;
 
 /// What a distance is compared with.
 #[derive(Clone, Copy)]
@@ -27,7 +27,7 @@ pub fn radius_or_zero(radius: Option<u64>) -> u64
 }
 
 /// Appends whether a distance is greater.
-pub fn push_sign(exceeds: bool, out: &mut Vec<u8>) -> Result<(), Memory>
+pub fn push_sign(exceeds: bool, out: &mut Vec<u8>) -> Result<(), AllocError>
     ensures { OnOk result (out.new.items ≡ out.old.items ++ sign exceeds) }
 {
     if exceeds {
@@ -38,7 +38,7 @@ pub fn push_sign(exceeds: bool, out: &mut Vec<u8>) -> Result<(), Memory>
 }
 
 // Appends what a distance is compared with.
-fn push_reach(reach: Reach, out: &mut Vec<u8>) -> Result<(), Memory>
+fn push_reach(reach: Reach, out: &mut Vec<u8>) -> Result<(), AllocError>
     ensures { OnOk result (out.new.items ≡ out.old.items ++ reach_text reach) }
 {
     push_numbered(b"", reach.rho, out)?;
@@ -49,7 +49,7 @@ fn push_reach(reach: Reach, out: &mut Vec<u8>) -> Result<(), Memory>
 }
 
 // Appends the centre test of an entry after `word`.
-fn push_centre_test(word: &[u8], dist: u64, reach: Reach, out: &mut Vec<u8>) -> Result<(), Memory>
+fn push_centre_test(word: &[u8], dist: u64, reach: Reach, out: &mut Vec<u8>) -> Result<(), AllocError>
     ensures { OnOk result (out.new.items ≡ out.old.items ++ (word.now ++ test_text (decimal dist) dist reach)) }
 {
     let radius = radius_or_zero(reach.radius);
@@ -59,7 +59,7 @@ fn push_centre_test(word: &[u8], dist: u64, reach: Reach, out: &mut Vec<u8>) -> 
 }
 
 /// Appends the difference of a distance from above and a stored distance.
-pub fn push_gap(above: u64, stored: u64, out: &mut Vec<u8>) -> Result<(), Memory>
+pub fn push_gap(above: u64, stored: u64, out: &mut Vec<u8>) -> Result<(), AllocError>
     ensures { OnOk result (out.new.items ≡ out.old.items ++ gap_text above stored) }
 {
     push_numbered(b"|", above, out)?;
@@ -73,7 +73,7 @@ fn push_parent_test(
     stored: u64,
     reach: Reach,
     out: &mut Vec<u8>,
-) -> Result<(), Memory>
+) -> Result<(), AllocError>
     ensures { OnOk result (out.new.items ≡ out.old.items ++ skip_text above stored reach) }
 {
     match above {
@@ -97,7 +97,7 @@ pub fn push_reason(
     reach: Reach,
     mark: Mark,
     out: &mut Vec<u8>,
-) -> Result<(), Memory>
+) -> Result<(), AllocError>
     ensures { OnOk result (out.new.items ≡ out.old.items ++ reason_text above stored dist reach mark) }
 {
     match mark {

@@ -10,11 +10,10 @@ use fault_lines::push_numbered;
 use job_files::logs::{push_answers, push_frame, push_verdict};
 use log_model::Log;
 use log_verify::Verdict;
-use outside_io::Memory;
-use std::alloc::Global;
+use std::alloc::{AllocError, Global};
 
 // Appends that a log is accepted, or why it is rejected.
-fn push_judged(fault: Option<Verdict>, out: &mut Vec<u8>) -> Result<(), Memory>
+fn push_judged(fault: Option<Verdict>, out: &mut Vec<u8>) -> Result<(), AllocError>
     ensures { OnOk result (out.new.items ≡ out.old.items ++ verdict_words fault) }
 {
     match fault {
@@ -27,7 +26,7 @@ fn push_judged(fault: Option<Verdict>, out: &mut Vec<u8>) -> Result<(), Memory>
 }
 
 /// Appends the number of a tree's nodes, or a dash where there is none.
-pub fn push_nodes(nodes: Option<u32>, out: &mut Vec<u8>) -> Result<(), Memory>
+pub fn push_nodes(nodes: Option<u32>, out: &mut Vec<u8>) -> Result<(), AllocError>
     ensures { OnOk result (out.new.items ≡ out.old.items ++ or_dash decimal nodes) }
 {
     match nodes {
@@ -37,7 +36,7 @@ pub fn push_nodes(nodes: Option<u32>, out: &mut Vec<u8>) -> Result<(), Memory>
 }
 
 // Appends how many nodes a walk opened, and how many distances it took.
-fn push_opened(nodes: Option<u32>, counts: Counts, out: &mut Vec<u8>) -> Result<(), Memory>
+fn push_opened(nodes: Option<u32>, counts: Counts, out: &mut Vec<u8>) -> Result<(), AllocError>
     requires { counts.fars + counts.nears < 2 ^ 64 }
     ensures { OnOk result (out.new.items ≡ out.old.items ++ opened_line nodes counts) }
 {
@@ -55,7 +54,7 @@ fn push_counts(
     counts: Counts,
     fault: Option<Verdict>,
     out: &mut Vec<u8>,
-) -> Result<(), Memory>
+) -> Result<(), AllocError>
     requires { counts.fars + counts.nears < 2 ^ 64 }
     ensures { OnOk result (out.new.items ≡ out.old.items ++ count_line frame nodes counts fault) }
 {
@@ -78,7 +77,7 @@ fn push_head(
     log: Log,
     fault: Option<Verdict>,
     out: &mut Vec<u8>,
-) -> Result<(), Memory>
+) -> Result<(), AllocError>
     ensures { OnOk result (out.new.items ≡ out.old.items ++ frame_head frame log fault) }
 {
     push_frame(frame, out)?;
@@ -96,7 +95,7 @@ pub fn frame_text(
     log: Log,
     fault: Option<Verdict>,
     walk: &Walk,
-) -> Result<Vec<u8>, Memory>
+) -> Result<Vec<u8>, AllocError>
     requires { walk.now.counts.fars + walk.now.counts.nears < 2 ^ 64 }
     ensures { IfOk result (λ text. text.items ≡ frame_words view.now.marks view.now.nodes frame log fault
         (record { lines = walk.now.lines.items; counts = walk.now.counts })) }

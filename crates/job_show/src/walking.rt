@@ -15,9 +15,8 @@ use crate::stops::stop_at;
 use crate::{Coming, Counts};
 use job_files::logs::LogStop;
 use log_model::{Need, Record, entry_count};
-use outside_io::Memory;
 use page_store::{Pages, SharedNode};
-use std::alloc::Global;
+use std::alloc::{AllocError, Global};
 
 impl Walk {
     /// Makes a walk that has shown nothing, and has the pages of `stack` to open, the next one last.
@@ -41,7 +40,7 @@ impl Walk {
 }
 
 // Makes a walk that has the root to open.
-fn begin_at(alloc: Global, root: u32) -> Result<Walk, Memory>
+fn begin_at(alloc: Global, root: u32) -> Result<Walk, AllocError>
     ensures lines { IfOk result (λ walk. walk.lines.items ≡ []) }
     ensures counts { IfOk result (λ walk. walk.counts ≡ none_counted) }
     ensures stack { IfOk result (λ walk. walk.stack.items ≡ root_coming root ∷ []) }

@@ -15,8 +15,7 @@ use job_show::push_place;
 use log_model::{JoinNeed, JoinProbe, Mark, Matches, is_far, is_skipped};
 use metric_laws::Meter;
 use metric_mix::MixSpace;
-use outside_io::Memory;
-use std::alloc::Global;
+use std::alloc::{AllocError, Global};
 use tree_shape::{InnerRef, LeafRef};
 
 // What a walk searches by.
@@ -142,7 +141,7 @@ pub fn show_object(
     entry: LeafRef,
     mark: Mark,
     out: &mut Vec<u8>,
-) -> Result<PairTested, Memory>
+) -> Result<PairTested, AllocError>
     requires { gauge.coming.now.depth + 1 < 2 ^ 32 }
     ensures line { OnOk result (out.new.items ≡ out.old.items ++
         pair_entry_line (search_by gauge.entry.search) gauge.entry.coming.now place (object_entry (leaf_of entry.entry)) mark) }
@@ -172,7 +171,7 @@ pub fn show_subtree(
     entry: InnerRef,
     mark: Mark,
     out: &mut Vec<u8>,
-) -> Result<PairTested, Memory>
+) -> Result<PairTested, AllocError>
     requires { gauge.coming.now.depth + 1 < 2 ^ 32 }
     ensures line { OnOk result (out.new.items ≡ out.old.items ++
         pair_entry_line (search_by gauge.entry.search) gauge.entry.coming.now place (subtree_entry level (inner_of entry.entry)) mark) }
@@ -201,7 +200,7 @@ pub fn name_object(
     mark: Mark,
     apart: Option<u64>,
     named: &mut Matches,
-) -> Result<(), Memory>
+) -> Result<(), AllocError>
     ensures { OnOk result (named.new.needs.items ≡ named.old.needs.items ++ needs_among
         (near_ones (paired gauge.entry.coming.now.need (object_entry (leaf_of entry.entry)).item apart ∷ []) (mark ∷ []))) }
 {
@@ -225,7 +224,7 @@ pub fn name_subtree(
     mark: Mark,
     apart: Option<u64>,
     named: &mut Matches,
-) -> Result<(), Memory>
+) -> Result<(), AllocError>
     ensures { OnOk result (named.new.needs.items ≡ named.old.needs.items ++ needs_among
         (near_ones (paired gauge.entry.coming.now.need (subtree_entry level (inner_of entry.entry)).item apart ∷ []) (mark ∷ []))) }
 {

@@ -17,11 +17,11 @@ use fault_lines::push_numbered;
 use job_join::side_name;
 use job_show::{Counts, count_marks, push_indent};
 use log_model::{Item, JoinNeed, Mark};
-use outside_io::Memory;
+use std::alloc::AllocError;
 use tree_shape::{InnerEntries, LeafEntries, Node};
 
 // Appends the name of an item.
-fn push_item(item: &Item, out: &mut Vec<u8>) -> Result<(), Memory>
+fn push_item(item: &Item, out: &mut Vec<u8>) -> Result<(), AllocError>
     ensures { OnOk result (out.new.items ≡ out.old.items ++ item_name item.now) }
 {
     match item {
@@ -31,7 +31,7 @@ fn push_item(item: &Item, out: &mut Vec<u8>) -> Result<(), Memory>
 }
 
 // Appends the line of an opened node beside the other item.
-fn push_pair(coming: &PairComing, level: u8, out: &mut Vec<u8>) -> Result<(), Memory>
+fn push_pair(coming: &PairComing, level: u8, out: &mut Vec<u8>) -> Result<(), AllocError>
     ensures { OnOk result (out.new.items ≡ out.old.items ++ pair_line coming.now level) }
 {
     let need = &coming.need;
@@ -50,7 +50,7 @@ fn show_leaf(
     entries: &LeafEntries,
     marks: &[Mark],
     walk: &mut PairWalk,
-) -> Result<bool, Memory>
+) -> Result<bool, AllocError>
     requires long { length marks.now ≡ length entries.now }
     requires deep { gauge.coming.now.depth + 1 < 2 ^ 32 }
     ensures lines { OnOk result (walk.new.lines.items ≡ walk.old.lines.items ++ marked_lines
@@ -81,7 +81,7 @@ fn show_inner(
     entries: &InnerEntries,
     marks: &[Mark],
     walk: &mut PairWalk,
-) -> Result<bool, Memory>
+) -> Result<bool, AllocError>
     requires long { length marks.now ≡ length entries.now }
     requires deep { gauge.coming.now.depth + 1 < 2 ^ 32 }
     ensures lines { OnOk result (walk.new.lines.items ≡ walk.old.lines.items ++ marked_lines
@@ -112,7 +112,7 @@ fn show_entries(
     node: &Node,
     marks: &[Mark],
     walk: &mut PairWalk,
-) -> Result<bool, Memory>
+) -> Result<bool, AllocError>
     requires long { length marks.now ≡ entry_count node.now }
     requires deep { gauge.coming.now.depth + 1 < 2 ^ 32 }
     ensures lines { OnOk result (walk.new.lines.items ≡ walk.old.lines.items ++
@@ -173,7 +173,7 @@ fn put_on_top(
     stack: &mut Vec<PairComing>,
     needs: &mut Vec<JoinNeed>,
     depth: u32,
-) -> Result<(), Memory>
+) -> Result<(), AllocError>
     ensures { OnOk result (reverse stack.new.items ≡ map (coming_at depth) needs.old.items ++ reverse stack.old.items) }
 {
     while let Some(need) = needs.pop() {
@@ -183,7 +183,7 @@ fn put_on_top(
 }
 
 // Goes on to the pairs that the node needs, which stand at this depth, or ends the walk.
-fn go_on(walk: &mut PairWalk, depth: u32, goes: bool) -> Result<(), Memory>
+fn go_on(walk: &mut PairWalk, depth: u32, goes: bool) -> Result<(), AllocError>
     ensures stack { OnOk result (reverse walk.new.stack.items ≡
         (if goes then map (coming_at depth) walk.old.named.needs.items ++ reverse walk.old.stack.items else [])) }
     ensures lines { walk.new.lines.items ≡ walk.old.lines.items }
@@ -205,7 +205,7 @@ pub fn show_node(
     node: &Node,
     marks: &[Mark],
     walk: &mut PairWalk,
-) -> Result<(), Memory>
+) -> Result<(), AllocError>
     requires long { length marks.now ≡ entry_count node.now }
     requires short { length marks.now ≤ 32 }
     requires deep { gauge.coming.now.depth + 1 < 2 ^ 32 }

@@ -7,7 +7,7 @@ use fault_lines::push_numbered;
 use job_show::{push_gap, push_sign, radius_or_zero};
 use log_model::{Item, Mark};
 use metric_laws::pair_test;
-use outside_io::Memory;
+use std::alloc::AllocError;
 
 /// What a distance of two items is compared with.
 #[derive(Clone, Copy)]
@@ -31,7 +31,7 @@ pub fn item_radius(item: &Item) -> Option<u64>
 }
 
 // Appends a covering radius behind a plus sign, where there is one.
-fn push_plus(radius: Option<u64>, out: &mut Vec<u8>) -> Result<(), Memory>
+fn push_plus(radius: Option<u64>, out: &mut Vec<u8>) -> Result<(), AllocError>
     ensures { OnOk result (out.new.items ≡ out.old.items ++ plus_radius radius) }
 {
     match radius {
@@ -41,7 +41,7 @@ fn push_plus(radius: Option<u64>, out: &mut Vec<u8>) -> Result<(), Memory>
 }
 
 // Appends what a distance is compared with.
-fn push_reach(reach: PairReach, out: &mut Vec<u8>) -> Result<(), Memory>
+fn push_reach(reach: PairReach, out: &mut Vec<u8>) -> Result<(), AllocError>
     ensures { OnOk result (out.new.items ≡ out.old.items ++ reach_text reach) }
 {
     push_numbered(b"", reach.rho, out)?;
@@ -55,7 +55,7 @@ fn push_centre_test(
     apart: Option<u64>,
     reach: PairReach,
     out: &mut Vec<u8>,
-) -> Result<(), Memory>
+) -> Result<(), AllocError>
     ensures { OnOk result (out.new.items ≡ out.old.items ++ centre_text word.now apart reach) }
 {
     out.extend_from_slice(word)?;
@@ -76,7 +76,7 @@ fn push_parent_test(
     stored: u64,
     reach: PairReach,
     out: &mut Vec<u8>,
-) -> Result<(), Memory>
+) -> Result<(), AllocError>
     ensures { OnOk result (out.new.items ≡ out.old.items ++ parent_text above stored reach) }
 {
     match above {
@@ -104,7 +104,7 @@ pub fn push_pair_reason(
     reach: PairReach,
     mark: Mark,
     out: &mut Vec<u8>,
-) -> Result<(), Memory>
+) -> Result<(), AllocError>
     ensures { OnOk result (out.new.items ≡ out.old.items ++ reason_text above stored apart reach mark) }
 {
     match mark {

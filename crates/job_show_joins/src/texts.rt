@@ -14,10 +14,10 @@ use job_join::{push_answers, push_verdict};
 use job_show::{Marks, push_nodes};
 use log_model::JoinLog;
 use log_verify::JoinVerdict;
-use outside_io::Memory;
+use std::alloc::AllocError;
 
 // Appends that a log is accepted, or why it is rejected.
-fn push_judged(fault: Option<JoinVerdict>, out: &mut Vec<u8>) -> Result<(), Memory>
+fn push_judged(fault: Option<JoinVerdict>, out: &mut Vec<u8>) -> Result<(), AllocError>
     ensures { OnOk result (out.new.items ≡ out.old.items ++ verdict_words fault) }
 {
     match fault {
@@ -35,7 +35,7 @@ fn push_sizes(
     nodes: (Option<u32>, Option<u32>),
     between: &[u8],
     out: &mut Vec<u8>,
-) -> Result<(), Memory>
+) -> Result<(), AllocError>
     ensures { OnOk result (out.new.items ≡ out.old.items ++
         (before.now ++ or_dash decimal nodes.0 ++ between.now ++ or_dash decimal nodes.1)) }
 {
@@ -46,7 +46,7 @@ fn push_sizes(
 }
 
 // Appends a number between two words.
-fn push_between(before: &[u8], n: u64, after: &[u8], out: &mut Vec<u8>) -> Result<(), Memory>
+fn push_between(before: &[u8], n: u64, after: &[u8], out: &mut Vec<u8>) -> Result<(), AllocError>
     ensures { OnOk result (out.new.items ≡ out.old.items ++ (numbered before.now n ++ after.now)) }
 {
     push_numbered(before, n, out)?;
@@ -54,7 +54,7 @@ fn push_between(before: &[u8], n: u64, after: &[u8], out: &mut Vec<u8>) -> Resul
 }
 
 // Appends how often each mark stands in a walk, and how many distances it took.
-fn push_marks(walk: &PairWalk, out: &mut Vec<u8>) -> Result<(), Memory>
+fn push_marks(walk: &PairWalk, out: &mut Vec<u8>) -> Result<(), AllocError>
     ensures { OnOk result (out.new.items ≡ out.old.items ++ (numbered space walk.now.counts.skips ++ numbered space walk.now.counts.fars
         ++ numbered space walk.now.counts.nears ++ numbered space walk.now.measured)) }
 {
@@ -69,7 +69,7 @@ fn push_opened(
     nodes: (Option<u32>, Option<u32>),
     walk: &PairWalk,
     out: &mut Vec<u8>,
-) -> Result<(), Memory>
+) -> Result<(), AllocError>
     ensures { OnOk result (out.new.items ≡ out.old.items ++ opened_line nodes (walk_shown walk.now)) }
 {
     push_numbered(b"opened ", walk.counts.opened, out)?;
@@ -84,7 +84,7 @@ fn push_counts(
     walk: &PairWalk,
     fault: Option<JoinVerdict>,
     out: &mut Vec<u8>,
-) -> Result<(), Memory>
+) -> Result<(), AllocError>
     ensures { OnOk result (out.new.items ≡ out.old.items ++ count_line frame nodes (walk_shown walk.now) fault) }
 {
     push_numbered(b"", frame, out)?;
@@ -101,7 +101,7 @@ fn push_head(
     log: JoinLog,
     fault: Option<JoinVerdict>,
     out: &mut Vec<u8>,
-) -> Result<(), Memory>
+) -> Result<(), AllocError>
     ensures { OnOk result (out.new.items ≡ out.old.items ++ frame_head frame log fault) }
 {
     push_frame(frame, out)?;
@@ -117,7 +117,7 @@ pub fn frame_text(
     log: JoinLog,
     fault: Option<JoinVerdict>,
     walk: &PairWalk,
-) -> Result<Vec<u8>, Memory>
+) -> Result<Vec<u8>, AllocError>
     ensures { IfOk result (λ text. text.items ≡ frame_words view.now.marks view.now.nodes frame log fault (walk_shown walk.now)) }
 {
     let mut text = Vec::new(view.alloc);

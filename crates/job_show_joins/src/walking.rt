@@ -21,9 +21,8 @@ use crate::shown::PairWalk;
 use job_files::logs::LogStop;
 use job_show::{Counts, stop_at};
 use log_model::{JoinNeed, JoinRecord, Mark, Matches, entry_count};
-use outside_io::Memory;
 use page_store::{Pages, SharedNode};
-use std::alloc::Global;
+use std::alloc::{AllocError, Global};
 use tree_shape::Live;
 
 impl PairWalk {
@@ -52,7 +51,7 @@ impl PairWalk {
     }
 
     /// Makes a walk that has the pair of roots to open.
-    pub fn begin_at(alloc: Global, left: &Live, right: &Live) -> Result<Self, Memory>
+    pub fn begin_at(alloc: Global, left: &Live, right: &Live) -> Result<Self, AllocError>
         ensures lines { IfOk result (λ walk. walk.lines.items ≡ []) }
         ensures counts { IfOk result (λ walk. walk.counts ≡ none_counted) }
         ensures measured { IfOk result (λ walk. walk.measured ≡ 0) }

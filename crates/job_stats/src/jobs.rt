@@ -13,13 +13,13 @@ use disk_model::Disk;
 use job_files::{FAULT_MEMORY, end_at_page, end_with, open_index, put_line, shape_opened};
 use node_page::Head;
 use node_page::laws::{fault_is_not_open, one_live_slot};
-use outside_io::{Memory, Sink, Status};
-use std::alloc::Global;
+use outside_io::{Sink, Status};
+use std::alloc::{AllocError, Global};
 use tree_outline::Shape;
 use tree_shape::Live;
 
 // Returns the text on a tree whose nodes are those of `shape`.
-fn text_of(alloc: Global, head: &Head, live: &Live, shape: &Shape) -> Result<Vec<u8>, Memory>
+fn text_of(alloc: Global, head: &Head, live: &Live, shape: &Shape) -> Result<Vec<u8>, AllocError>
     requires { shape.now.nodes ≡ length shape.now.lines }
     ensures { IfOk result (λ text. TellsTree head.now live.now shape.now.lines (λ told. text.items ≡ told)) }
 {

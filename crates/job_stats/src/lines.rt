@@ -8,8 +8,7 @@ use crate::names::{metric_word, promote_word, split_word};
 use crate::numbers::{LevelNumbers, Spread};
 use fault_lines::push_numbered;
 use node_page::Head;
-use outside_io::Memory;
-use std::alloc::Global;
+use std::alloc::{AllocError, Global};
 use tree_shape::Live;
 
 // The pages of the head and of the two slots.
@@ -19,7 +18,7 @@ const HEAD_PAGES: u64 = 3;
 const PAGE_BYTES: u64 = 4096;
 
 // Appends a line of a word and a name.
-fn push_named(word: &[u8], name: &[u8], out: &mut Vec<u8>) -> Result<(), Memory>
+fn push_named(word: &[u8], name: &[u8], out: &mut Vec<u8>) -> Result<(), AllocError>
     ensures { OnOk result (out.new.items ≡ out.old.items ++ named word.now name.now) }
 {
     out.extend_from_slice(word)?;
@@ -28,7 +27,7 @@ fn push_named(word: &[u8], name: &[u8], out: &mut Vec<u8>) -> Result<(), Memory>
 }
 
 // Appends a line of a word and a number.
-fn push_counted(word: &[u8], n: u64, out: &mut Vec<u8>) -> Result<(), Memory>
+fn push_counted(word: &[u8], n: u64, out: &mut Vec<u8>) -> Result<(), AllocError>
     ensures { OnOk result (out.new.items ≡ out.old.items ++ counted word.now n) }
 {
     push_numbered(word, n, out)?;
@@ -36,7 +35,7 @@ fn push_counted(word: &[u8], n: u64, out: &mut Vec<u8>) -> Result<(), Memory>
 }
 
 // Appends a spread, or a dash where there is none.
-fn push_spread(spread: Option<Spread>, out: &mut Vec<u8>) -> Result<(), Memory>
+fn push_spread(spread: Option<Spread>, out: &mut Vec<u8>) -> Result<(), AllocError>
     ensures { OnOk result (out.new.items ≡ out.old.items ++ or_dash spread_text spread) }
 {
     match spread {
@@ -49,7 +48,7 @@ fn push_spread(spread: Option<Spread>, out: &mut Vec<u8>) -> Result<(), Memory>
     }
 }
 
-fn push_level(numbers: &LevelNumbers, out: &mut Vec<u8>) -> Result<(), Memory>
+fn push_level(numbers: &LevelNumbers, out: &mut Vec<u8>) -> Result<(), AllocError>
     ensures { OnOk result (out.new.items ≡ out.old.items ++ level_text numbers.now) }
 {
     push_numbered(b"level ", u64::from(numbers.level), out)?;
@@ -61,7 +60,7 @@ fn push_level(numbers: &LevelNumbers, out: &mut Vec<u8>) -> Result<(), Memory>
     out.extend_from_slice(b"\n")
 }
 
-fn push_levels(levels: &[LevelNumbers], out: &mut Vec<u8>) -> Result<(), Memory>
+fn push_levels(levels: &[LevelNumbers], out: &mut Vec<u8>) -> Result<(), AllocError>
     ensures { OnOk result (out.new.items ≡ out.old.items ++ flat_map level_text levels.now) }
 {
     for numbers in levels {
@@ -70,7 +69,7 @@ fn push_levels(levels: &[LevelNumbers], out: &mut Vec<u8>) -> Result<(), Memory>
     Ok(())
 }
 
-fn push_head(head: &Head, out: &mut Vec<u8>) -> Result<(), Memory>
+fn push_head(head: &Head, out: &mut Vec<u8>) -> Result<(), AllocError>
     ensures { OnOk result (out.new.items ≡ out.old.items ++ head_text head.now) }
 {
     push_named(b"metric ", metric_word(head.kind), out)?;
@@ -80,7 +79,7 @@ fn push_head(head: &Head, out: &mut Vec<u8>) -> Result<(), Memory>
     push_counted(b"max ", u64::from(head.limit), out)
 }
 
-fn push_tree(live: &Live, nodes: u32, out: &mut Vec<u8>) -> Result<(), Memory>
+fn push_tree(live: &Live, nodes: u32, out: &mut Vec<u8>) -> Result<(), AllocError>
     ensures { OnOk result (out.new.items ≡ out.old.items ++ tree_text live.now nodes) }
 {
     push_counted(b"generation ", live.generation, out)?;
@@ -90,7 +89,7 @@ fn push_tree(live: &Live, nodes: u32, out: &mut Vec<u8>) -> Result<(), Memory>
 }
 
 // Appends the lines of a file's pages, where its tree has `nodes` nodes.
-fn push_pages(pages: u32, nodes: u32, out: &mut Vec<u8>) -> Result<(), Memory>
+fn push_pages(pages: u32, nodes: u32, out: &mut Vec<u8>) -> Result<(), AllocError>
     ensures { OnOk result (out.new.items ≡ out.old.items ++ pages_text pages nodes) }
 {
     let pages = u64::from(pages);
@@ -107,7 +106,7 @@ pub fn stats_text(
     live: &Live,
     nodes: u32,
     levels: &[LevelNumbers],
-) -> Result<Vec<u8>, Memory>
+) -> Result<Vec<u8>, AllocError>
     ensures { IfOk result (λ text. text.items ≡ stats_text head.now live.now nodes levels.now) }
 {
     let mut text = Vec::new(alloc);

@@ -3,8 +3,7 @@ ghost use Rattle.std.specs.Prelude.{◌≡◌, map, IfOk};
 ghost use Rattle.std.specs.List.{filter_map};
 ghost use Rattle.job_stats.specs.Numbers.{AreLevels, AreNumbersOf, IsSpread, on_level};
 
-use outside_io::Memory;
-use std::alloc::Global;
+use std::alloc::{AllocError, Global};
 use tree_outline::ShapeLine;
 
 /// The least, the middle and the greatest of some numbers. Of two in the middle it is the lower.
@@ -42,7 +41,7 @@ fn spread_of(numbers: &mut Vec<u64>) -> Option<Spread>
 }
 
 // Returns the numbers of the entries of the nodes on a level.
-fn entries_on(alloc: Global, lines: &[ShapeLine], level: u32) -> Result<Vec<u64>, Memory>
+fn entries_on(alloc: Global, lines: &[ShapeLine], level: u32) -> Result<Vec<u64>, AllocError>
     ensures { IfOk result (λ entries. entries.items ≡ map (λ line. line.entries) (on_level level lines.now)) }
 {
     lines
@@ -53,7 +52,7 @@ fn entries_on(alloc: Global, lines: &[ShapeLine], level: u32) -> Result<Vec<u64>
 }
 
 // Returns the radii of the regions of the nodes on a level.
-fn radii_on(alloc: Global, lines: &[ShapeLine], level: u32) -> Result<Vec<u64>, Memory>
+fn radii_on(alloc: Global, lines: &[ShapeLine], level: u32) -> Result<Vec<u64>, AllocError>
     ensures { IfOk result (λ radii. radii.items ≡ filter_map (λ line. line.radius) (on_level level lines.now)) }
 {
     lines
@@ -64,7 +63,7 @@ fn radii_on(alloc: Global, lines: &[ShapeLine], level: u32) -> Result<Vec<u64>, 
 }
 
 // Returns the numbers of a level.
-fn level_of(alloc: Global, lines: &[ShapeLine], level: u32) -> Result<LevelNumbers, Memory>
+fn level_of(alloc: Global, lines: &[ShapeLine], level: u32) -> Result<LevelNumbers, AllocError>
     ensures { IfOk result (AreNumbersOf lines.now level) }
 {
     let mut entries = entries_on(alloc, lines, level)?;
@@ -83,7 +82,7 @@ pub fn levels_of(
     alloc: Global,
     lines: &[ShapeLine],
     height: u32,
-) -> Result<Vec<LevelNumbers>, Memory>
+) -> Result<Vec<LevelNumbers>, AllocError>
     ensures { IfOk result (λ levels. AreLevels lines.now height levels.items) }
 {
     let mut levels = Vec::new(alloc);

@@ -1,5 +1,5 @@
 -- The values of the words, by their names.
-use Rattle.std.specs.Prelude.{ℕ, Bool, true, false, not, ◌==◌, ◌&&◌, ◌%◌, ◌^◌, nat_le, List, ◌∷◌, codes, Option, Some, None, if◌then◌else◌}
+use Rattle.std.specs.Prelude.{ℕ, Bool, true, false, not, ◌==◌, ◌&&◌, ◌%◌, ◌^◌, length, nat_le, List, ◌∷◌, codes, Option, Some, None, if◌then◌else◌}
 use Rattle.std.specs.List.{list_any, list_all}
 use Rattle.std.specs.Option.{option_and_then, is_some}
 use Rattle.std.specs.Str.{bytes_eq}
@@ -7,7 +7,7 @@ use Rattle.std.specs.Result.{result_ok}
 use Rattle.clap.specs.Words.{Text}
 use Rattle.hex.specs.Hex.{decode_sized}
 use Rattle.job_words.specs.Names.{is_generated, is_halved, metric_named, promote_named, split_named}
-use Rattle.job_words.specs.Numbers.{number_below}
+use Rattle.rows_text.specs.Numbers.{number_below}
 use Rattle.job_words.specs.Words.{options}
 use Rattle.job_words.specs.declared.names.MetricName.{MetricName}
 use Rattle.job_words.specs.declared.names.Promote.{Promote}
@@ -33,10 +33,14 @@ has_other names given = list_any (is_other names given) (codes "INDEX" ∷ optio
 abbrev pub between : ℕ → ℕ → ℕ → Option ℕ
 between least most n = if nat_le least n && nat_le n most then Some n else None
 
+-- the number below 2 ^ 64 that 1 to 20 decimal digits spell
+abbrev pub number_in : Text → Option ℕ
+number_in text = if nat_le (length text) 20 then number_below (2 ^ 64) text else None
+
 -- the number that a text spells, from `least` to `most`; `other` where there is no text
 abbrev pub number_or : ℕ → ℕ → Option ℕ → Option Text → Option ℕ
 number_or least most other None = other
-number_or least most other (Some text) = option_and_then (between least most) (number_below (2 ^ 64) text)
+number_or least most other (Some text) = option_and_then (between least most) (number_in text)
 
 abbrev pub number_given : Text → ℕ → ℕ → Option ℕ → Given → Option ℕ
 number_given name least most other given = number_or least most other (given name)

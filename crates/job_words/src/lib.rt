@@ -10,7 +10,6 @@ mod files;
 mod job;
 mod law;
 mod names;
-mod number;
 mod reading;
 mod rows;
 mod values;

@@ -2,7 +2,7 @@ ghost use Rattle.std.specs.Prelude.{◌≡◌, ◌≤◌, map, option_map, IfSom
 ghost use Rattle.std.specs.List.{list_any};
 ghost use Rattle.std.specs.Str.{bytes_eq};
 ghost use Rattle.job_words.specs.Found.{given_in};
-ghost use Rattle.job_words.specs.Given.{is_other, has_other, number_given, dim_given, limit_given, workers_given, count_given, seed_given, radius_given, show_given, counts_only_given, space_given, generated_space_given, policies_given, digest_of, root_given, promote_or, split_or, is_lower_digit};
+ghost use Rattle.job_words.specs.Given.{is_other, has_other, number_in, number_given, dim_given, limit_given, workers_given, count_given, seed_given, radius_given, show_given, counts_only_given, space_given, generated_space_given, policies_given, digest_of, root_given, promote_or, split_or, is_lower_digit};
 ghost use Rattle.job_words.specs.Valid.{AreWorkers, IsCount, IsGeneratedSpace, IsValidSpace, IsLimit};
 ghost use Rattle.job_words.specs.Names.{is_halved, is_generated};
 
@@ -10,9 +10,11 @@ use crate::command_line::OPTIONS;
 use crate::names::{
     MetricName, PolicyNames, Promote, SpaceName, Split, metric_named, promote_named, split_named,
 };
-use crate::number::number;
 use clap::ArgMatches;
 use hex::FromHex;
+use rows_text::number;
+
+const MOST_DIGITS: usize = 20;
 
 /// Returns the value of an option or a positional.
 pub fn value<'a>(matches: &ArgMatches<'a>, name: &str) -> Option<&'a str>
@@ -60,8 +62,18 @@ pub fn has_other(matches: &ArgMatches<'_>, names: &[&str]) -> bool
     is_other(matches, names, "INDEX") || has_other_option(matches, names, &OPTIONS)
 }
 
+// Returns the number below 2^64 that 1 to 20 decimal digits spell.
+fn number_in(text: &str) -> Option<u64>
+    ensures { result ≡ number_in text.now }
+{
+    if text.len() > MOST_DIGITS {
+        return None;
+    }
+    number(text.as_bytes())
+}
+
 // Returns the number of an option, from the least to the most; the default where the option is not given.
-fn number_in(
+fn number_given(
     matches: &ArgMatches<'_>,
     name: &str,
     least: u64,
@@ -74,7 +86,7 @@ fn number_in(
     let Some(text) = value(matches, name) else {
         return other;
     };
-    let n = number(text.as_bytes())?;
+    let n = number_in(text)?;
     if n < least || n > most {
         return None;
     }
@@ -86,7 +98,7 @@ pub fn limit_in(matches: &ArgMatches<'_>) -> Option<u32>
     ensures value { result ≡ limit_given (given_in matches.now) }
     ensures valid { IfSome result IsLimit }
 {
-    let limit = number_in(matches, "max", 1, 16777216, Some(16777216))?;
+    let limit = number_given(matches, "max", 1, 16777216, Some(16777216))?;
     Some(limit as u32)
 }
 
@@ -95,7 +107,7 @@ pub fn workers_in(matches: &ArgMatches<'_>) -> Option<usize>
     ensures value { result ≡ workers_given (given_in matches.now) }
     ensures valid { IfSome result AreWorkers }
 {
-    let workers = number_in(matches, "workers", 1, 64, Some(1))?;
+    let workers = number_given(matches, "workers", 1, 64, Some(1))?;
     Some(workers as usize)
 }
 
@@ -104,7 +116,7 @@ pub fn count_in(matches: &ArgMatches<'_>) -> Option<u32>
     ensures value { result ≡ count_given (given_in matches.now) }
     ensures valid { IfSome result IsCount }
 {
-    let count = number_in(matches, "count", 1, 1048576, None)?;
+    let count = number_given(matches, "count", 1, 1048576, None)?;
     Some(count as u32)
 }
 
@@ -112,7 +124,7 @@ pub fn count_in(matches: &ArgMatches<'_>) -> Option<u32>
 pub fn seed_in(matches: &ArgMatches<'_>) -> Option<u32>
     ensures { result ≡ seed_given (given_in matches.now) }
 {
-    let seed = number_in(matches, "seed", 0, 4294967295, Some(0))?;
+    let seed = number_given(matches, "seed", 0, 4294967295, Some(0))?;
     Some(seed as u32)
 }
 
@@ -120,7 +132,7 @@ pub fn seed_in(matches: &ArgMatches<'_>) -> Option<u32>
 pub fn radius_in(matches: &ArgMatches<'_>) -> Option<u64>
     ensures { result ≡ radius_given (given_in matches.now) }
 {
-    number_in(matches, "radius", 0, u64::MAX, None)
+    number_given(matches, "radius", 0, u64::MAX, None)
 }
 
 /// Returns whether `--tags` is `show`.
@@ -159,7 +171,7 @@ pub fn dim_in(matches: &ArgMatches<'_>) -> Option<u8>
     ensures value { result ≡ dim_given (given_in matches.now) }
     ensures within { IfSome result (λ dim. (1 ≤ dim) × (dim ≤ 64)) }
 {
-    let dim = number_in(matches, "dim", 1, 64, None)?;
+    let dim = number_given(matches, "dim", 1, 64, None)?;
     Some(dim as u8)
 }
 

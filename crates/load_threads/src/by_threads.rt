@@ -1,9 +1,8 @@
 ghost use Rattle.std.specs.Thread.{IsSync};
 
 use bulk_load::{Crew, Loading, Made, Placing, Scout, Set, hints_by_threads, made_by_threads};
-use metric_laws::Memory;
 use metric_mix::MixSpace;
-use std::alloc::Global;
+use std::alloc::{AllocError, Global};
 use std::thread::Threads;
 use tree_growth::Group;
 
@@ -32,7 +31,7 @@ impl<R: Threads + Sync> Scout<MixSpace> for ByThreads<'_, R> {
         placing: &Placing<'_, MixSpace>,
         counts: &[usize],
         place: usize,
-    ) -> Result<Vec<Option<u32>>, Memory> {
+    ) -> Result<Vec<Option<u32>>, AllocError> {
         hints_by_threads(self.rt, alloc, placing, counts, place)
     }
 }
@@ -44,7 +43,7 @@ impl<R: Threads + Sync> Crew<MixSpace> for ByThreads<'_, R> {
         loading: &Loading<'_, MixSpace>,
         set: &Set<'_>,
         groups: &[Group],
-    ) -> Result<Option<Vec<Result<Made, Memory>>>, Memory> {
+    ) -> Result<Option<Vec<Result<Made, AllocError>>>, AllocError> {
         let parts = made_by_threads(self.rt, alloc, loading, set, groups)?;
         Ok(Some(parts))
     }

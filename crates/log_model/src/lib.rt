@@ -20,6 +20,3 @@ pub use matching::{JoinProbe, Matches};
 pub use pairing::{is_far, is_skipped};
 pub use pairs::{Item, JoinNeed, SharedItem};
 pub use traversal::{Traversal, entry_count};
-
-/// The error when memory runs out.
-pub type Memory = std::alloc::AllocError;

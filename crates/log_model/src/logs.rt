@@ -1,10 +1,10 @@
 ghost use Rattle.std.specs.Prelude.{◌≡◌, IfOk};
 ghost use Rattle.log_model.specs.Sound.{selected};
 
-use crate::{JoinRecord, Memory, Record, Traversal, select};
+use crate::{JoinRecord, Record, Traversal, select};
 use metric_laws::Listed;
 use scan_model::{Hit, Pair, Query};
-use std::alloc::Global;
+use std::alloc::{AllocError, Global};
 use tree_shape::Live;
 
 /// A query, its answers, and each pruning decision of its search.
@@ -57,7 +57,7 @@ pub struct Joined {
 
 impl Found {
     /// Returns the result of the query `query` from its finished walk `walk` of the live tree.
-    pub fn of(alloc: Global, live: &Live, query: Query, walk: Traversal) -> Result<Self, Memory>
+    pub fn of(alloc: Global, live: &Live, query: Query, walk: Traversal) -> Result<Self, AllocError>
         ensures generation { IfOk result (λ found. found.log.generation ≡ live.now.generation) }
         ensures root { IfOk result (λ found. found.log.root ≡ live.now.root) }
         ensures query { IfOk result (λ found. found.log.query ≡ query) }

@@ -5,9 +5,10 @@ ghost use Rattle.metric_laws.specs.Counts.{count_up};
 ghost use Rattle.log_model.specs.Counts.{measured_by};
 ghost use Rattle.log_model.specs.Walk.{search_at, parent_skips, leaf_marks, inner_marks, leaf_hits, inner_needs};
 
-use crate::{Mark, Memory, Need};
+use crate::{Mark, Need};
 use metric_laws::{Ruler, centre_test, parent_test};
 use scan_model::Hit;
+use std::alloc::AllocError;
 use tree_shape::{InnerEntries, LeafEntries};
 
 /// The query point and the radius that a walk prunes by.
@@ -38,7 +39,7 @@ pub fn mark_leaf<R: Ruler>(
     entries: &LeafEntries,
     marks: &mut Vec<Mark>,
     hits: &mut Vec<Hit>,
-) -> Result<(), Memory>
+) -> Result<(), AllocError>
     ensures metric { R.metric ruler.new ≡ R.metric ruler.old }
     ensures counted { OnOk result
         (R.used ruler.new ≡ count_up (R.used ruler.old)
@@ -77,7 +78,7 @@ pub fn mark_inner<R: Ruler>(
     entries: &InnerEntries,
     marks: &mut Vec<Mark>,
     needs: &mut Vec<Need>,
-) -> Result<(), Memory>
+) -> Result<(), AllocError>
     ensures metric { R.metric ruler.new ≡ R.metric ruler.old }
     ensures counted { OnOk result
         (R.used ruler.new ≡ count_up (R.used ruler.old)

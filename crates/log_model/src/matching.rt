@@ -6,9 +6,9 @@ ghost use Rattle.log_model.specs.JoinWalk.{object_entry, other, radius_of, subtr
 ghost use Rattle.log_model.specs.JoinSteps.{paired};
 ghost use Rattle.log_model.specs.Matches.{AddsPair};
 
-use crate::{Item, JoinNeed, Memory, SharedItem};
+use crate::{Item, JoinNeed, SharedItem};
 use scan_model::Pair;
-use std::alloc::Global;
+use std::alloc::{AllocError, Global};
 use tree_shape::{InnerRef, LeafRef};
 
 /// What the tests of an opened node's entries need.
@@ -44,7 +44,7 @@ impl Matches {
         probe: JoinProbe,
         entry: LeafRef,
         apart: Option<u64>,
-    ) -> Result<(), Memory>
+    ) -> Result<(), AllocError>
         ensures { OnOk result (AddsPair (paired probe.entry.need.now (object_entry (leaf_of entry.entry)).item apart) self.old self.new) }
     {
         if probe.need.other().is_object() {
@@ -65,7 +65,7 @@ impl Matches {
         level: u8,
         entry: InnerRef,
         apart: Option<u64>,
-    ) -> Result<(), Memory>
+    ) -> Result<(), AllocError>
         ensures { OnOk result (AddsPair
             (paired probe.entry.need.now (subtree_entry level (inner_of entry.entry)).item apart) self.old self.new) }
     {

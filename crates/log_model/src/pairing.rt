@@ -10,14 +10,14 @@ ghost use Rattle.log_model.specs.declared.pairs.Item.{Item as TheItem};
 ghost use Rattle.log_model.specs.JoinSteps.{apart_from, paired};
 ghost use Rattle.log_model.specs.SoundJoin.{root_item, root_pair};
 
-use crate::{Item, JoinNeed, Memory, SharedItem};
+use crate::{Item, JoinNeed, SharedItem};
 use metric_laws::{Listed, Ruler, pair_test};
 use scan_model::Pair;
-use std::alloc::Global;
+use std::alloc::{AllocError, Global};
 use tree_shape::{InnerRef, LeafRef, Live};
 
 // Copies a point's coordinates into a list, so that an item is small, and making and freeing it costs little.
-fn listed(alloc: Global, point: &[u32]) -> Result<Listed<u32>, Memory>
+fn listed(alloc: Global, point: &[u32]) -> Result<Listed<u32>, AllocError>
     ensures { IfOk result (λ list. list ≡ point.now) }
 {
     Ok(Listed::new(point.to_vec(alloc)?))
@@ -37,7 +37,7 @@ impl Item {
     }
 
     /// Returns the object of a leaf's entry as an item.
-    pub(crate) fn of_object(alloc: Global, entry: LeafRef) -> Result<Self, Memory>
+    pub(crate) fn of_object(alloc: Global, entry: LeafRef) -> Result<Self, AllocError>
         ensures { IfOk result (λ item. item ≡ (object_entry (leaf_of entry.entry)).item) }
     {
         Ok(Item::Object {
@@ -47,7 +47,7 @@ impl Item {
     }
 
     /// Returns the subtree that an entry of an inner node of level `level` names, as an item.
-    pub(crate) fn of_subtree(alloc: Global, level: u8, entry: InnerRef) -> Result<Self, Memory>
+    pub(crate) fn of_subtree(alloc: Global, level: u8, entry: InnerRef) -> Result<Self, AllocError>
         ensures { IfOk result (λ item. item ≡ (subtree_entry level (inner_of entry.entry)).item) }
     {
         Ok(Item::Subtree {
@@ -125,7 +125,7 @@ impl Item {
 
 impl JoinNeed {
     /// Returns the pair of the roots of two trees, with which a walk begins.
-    pub fn of_roots(alloc: Global, left: &Live, right: &Live) -> Result<Self, Memory>
+    pub fn of_roots(alloc: Global, left: &Live, right: &Live) -> Result<Self, AllocError>
         ensures { IfOk result (λ pair. pair ≡ root_pair left.now right.now) }
     {
         Ok(JoinNeed {
@@ -136,7 +136,7 @@ impl JoinNeed {
     }
 
     /// Returns the pair of `item`, in the place of the opened item, with the other item. `apart` is their distance.
-    pub fn with(&self, item: SharedItem, apart: Option<u64>) -> Result<Self, Memory>
+    pub fn with(&self, item: SharedItem, apart: Option<u64>) -> Result<Self, AllocError>
         ensures { IfOk result (λ pair. pair ≡ paired self.now item apart) }
     {
         if self.opens_right() {

@@ -7,10 +7,10 @@ ghost use Rattle.log_model.specs.Walk.{search_at, least_marks, root_need};
 ghost use Rattle.log_model.specs.Steps.{TakesNode};
 
 use crate::marking::{mark_inner, mark_leaf};
-use crate::{Memory, Need, Probe, Record};
+use crate::{Need, Probe, Record};
 use metric_laws::{Listed, Ruler};
 use scan_model::Hit;
-use std::alloc::Global;
+use std::alloc::{AllocError, Global};
 use tree_shape::Node;
 
 /// What a walk has named and recorded so far, and what it still has to open.
@@ -35,7 +35,7 @@ pub fn entry_count(node: &Node) -> usize
 }
 
 // Puts the needs on the stack, so that the first of them is on top.
-fn put_on_top(stack: &mut Vec<Need>, needs: &mut Vec<Need>) -> Result<(), Memory>
+fn put_on_top(stack: &mut Vec<Need>, needs: &mut Vec<Need>) -> Result<(), AllocError>
     ensures { OnOk result (reverse stack.new.items ≡ needs.old.items ++ reverse stack.old.items) }
 {
     while let Some(need) = needs.pop() {
@@ -46,7 +46,7 @@ fn put_on_top(stack: &mut Vec<Need>, needs: &mut Vec<Need>) -> Result<(), Memory
 
 impl Traversal {
     /// Makes a walk that needs only the root.
-    pub fn begin(alloc: Global, root: u32) -> Result<Self, Memory>
+    pub fn begin(alloc: Global, root: u32) -> Result<Self, AllocError>
         ensures hits { IfOk result (λ t. t.hits.items ≡ []) }
         ensures records { IfOk result (λ t. t.records.items ≡ []) }
         ensures stack { IfOk result (λ t. t.stack.items ≡ root_need root ∷ []) }
@@ -73,7 +73,7 @@ impl Traversal {
         probe: Probe,
         need: Need,
         node: &Node,
-    ) -> Result<(), Memory>
+    ) -> Result<(), AllocError>
         ensures metric { R.metric ruler.new ≡ R.metric ruler.old }
         ensures counted { OnOk result
             (R.used ruler.new ≡ count_up (R.used ruler.old)

@@ -7,9 +7,10 @@ ghost use Rattle.log_model.specs.Counts.{measured_by};
 ghost use Rattle.log_model.specs.Walk.{search_at, away, allows_object, allows_subtree, near_ones, hit_of, need_of};
 ghost use Rattle.log_verify.specs.Judged.{first_wrong};
 
-use log_model::{Mark, Memory, Need, Probe, is_ruled_out};
+use log_model::{Mark, Need, Probe, is_ruled_out};
 use metric_laws::{Ruler, centre_test};
 use scan_model::Hit;
+use std::alloc::AllocError;
 use tree_shape::{InnerEntries, InnerRef, LeafEntries, LeafRef};
 
 // The result for an entry and its mark.
@@ -87,7 +88,7 @@ fn check_subtree<R: Ruler>(
 }
 
 // Appends `item` where its entry is marked Near.
-fn push_near<T: Drop>(items: &mut Vec<T>, mark: Mark, item: T) -> Result<(), Memory>
+fn push_near<T: Drop>(items: &mut Vec<T>, mark: Mark, item: T) -> Result<(), AllocError>
     ensures { OnOk result (items.new.items ≡ items.old.items ++ near_ones (item ∷ []) (mark ∷ [])) }
 {
     match mark {
@@ -105,7 +106,7 @@ pub fn check_leaf<R: Ruler>(
     entries: &LeafEntries,
     marks: &[Mark],
     hits: &mut Vec<Hit>,
-) -> Result<Option<u32>, Memory>
+) -> Result<Option<u32>, AllocError>
     requires long { length marks.now ≡ length entries.now }
     requires few { length entries.now < 2 ^ 32 }
     ensures metric { R.metric ruler.new ≡ R.metric ruler.old }
@@ -144,7 +145,7 @@ pub fn check_inner<R: Ruler>(
     entries: &InnerEntries,
     marks: &[Mark],
     needs: &mut Vec<Need>,
-) -> Result<Option<u32>, Memory>
+) -> Result<Option<u32>, AllocError>
     requires long { length marks.now ≡ length entries.now }
     requires few { length entries.now < 2 ^ 32 }
     ensures metric { R.metric ruler.new ≡ R.metric ruler.old }

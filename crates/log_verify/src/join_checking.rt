@@ -12,9 +12,9 @@ ghost use Rattle.log_model.specs.JoinSteps.{apart_from, search_within, hits_amon
 ghost use Rattle.log_verify.specs.JoinJudged.{join_wrong_in};
 ghost use Rattle.log_verify.specs.JoinSteps.{object_pair, subtree_pair};
 
-use log_model::{JoinProbe, Mark, Matches, Memory, is_far, is_skipped};
+use log_model::{JoinProbe, Mark, Matches, is_far, is_skipped};
 use metric_laws::Ruler;
-use std::alloc::Global;
+use std::alloc::{AllocError, Global};
 use tree_shape::{InnerEntries, InnerRef, InnerView, LeafEntries, LeafRef, LeafView, Node};
 
 // The result for an entry and its mark.
@@ -196,7 +196,7 @@ fn name_object(
     entry: LeafRef,
     mark: Mark,
     apart: Option<u64>,
-) -> Result<(), Memory>
+) -> Result<(), AllocError>
     ensures hits { OnOk result (named.new.hits.items ≡ named.old.hits.items ++ hits_among
         (near_ones (paired probe.entry.need.now (object_entry (leaf_of entry.entry)).item apart ∷ []) (mark ∷ []))) }
     ensures needs { OnOk result (named.new.needs.items ≡ named.old.needs.items ++ needs_among
@@ -216,7 +216,7 @@ fn name_subtree(
     entry: InnerRef,
     mark: Mark,
     apart: Option<u64>,
-) -> Result<(), Memory>
+) -> Result<(), AllocError>
     ensures hits { OnOk result (named.new.hits.items ≡ named.old.hits.items ++ hits_among
         (near_ones (paired probe.entry.need.now (subtree_entry level (inner_of entry.entry)).item apart ∷ []) (mark ∷ []))) }
     ensures needs { OnOk result (named.new.needs.items ≡ named.old.needs.items ++ needs_among
@@ -235,7 +235,7 @@ fn check_leaf<R: Ruler>(
     entries: &LeafEntries,
     marks: &[Mark],
     named: &mut Matches,
-) -> Result<Option<u32>, Memory>
+) -> Result<Option<u32>, AllocError>
     requires long { length marks.now ≡ length entries.now }
     requires few { length entries.now < 2 ^ 32 }
     ensures metric { R.metric ruler.new ≡ R.metric ruler.old }
@@ -272,7 +272,7 @@ fn check_inner<R: Ruler>(
     entries: &InnerEntries,
     marks: &[Mark],
     named: &mut Matches,
-) -> Result<Option<u32>, Memory>
+) -> Result<Option<u32>, AllocError>
     requires long { length marks.now ≡ length entries.now }
     requires few { length entries.now < 2 ^ 32 }
     ensures metric { R.metric ruler.new ≡ R.metric ruler.old }
@@ -311,7 +311,7 @@ pub fn check_node<R: Ruler>(
     node: &Node,
     marks: &[Mark],
     named: &mut Matches,
-) -> Result<Option<u32>, Memory>
+) -> Result<Option<u32>, AllocError>
     requires long { length marks.now ≡ entry_count node.now }
     requires few { entry_count node.now < 2 ^ 32 }
     ensures metric { R.metric ruler.new ≡ R.metric ruler.old }

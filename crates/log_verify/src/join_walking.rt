@@ -13,11 +13,11 @@ ghost use Rattle.log_verify.specs.Causes.{IsNodeFault, verdict_of, IsJoinPageVer
 use crate::JoinVerdict;
 use crate::join_checking::check_node;
 use crate::walking::put_on_top;
-use log_model::{JoinNeed, JoinProbe, JoinRecord, Matches, Memory, entry_count};
+use log_model::{JoinNeed, JoinProbe, JoinRecord, Matches, entry_count};
 use metric_laws::Ruler;
 use page_store::{PageFault, Pages, SharedNode};
 use scan_model::Pair;
-use std::alloc::Global;
+use std::alloc::{AllocError, Global};
 use tree_shape::Live;
 
 /// A walk from the pair of roots, in progress.
@@ -35,7 +35,7 @@ pub struct JoinWalk {
 
 impl JoinWalk {
     /// Makes a walk that needs the pair of roots.
-    pub fn begin(alloc: Global, left: &Live, right: &Live, rho: u64) -> Result<Self, Memory>
+    pub fn begin(alloc: Global, left: &Live, right: &Live, rho: u64) -> Result<Self, AllocError>
         ensures rho { IfOk result (λ walk. walk.rho ≡ rho) }
         ensures taken { IfOk result (λ walk. walk.taken ≡ 0) }
         ensures hits { IfOk result (λ walk. walk.named.hits.items ≡ []) }

@@ -11,11 +11,11 @@ ghost use Rattle.log_verify.specs.Steps.{NamesNode};
 
 use crate::Verdict;
 use crate::checking::{check_inner, check_leaf};
-use log_model::{Mark, Memory, Need, Probe, Record, entry_count};
+use log_model::{Mark, Need, Probe, Record, entry_count};
 use metric_laws::Ruler;
 use page_store::{PageFault, Pages, SharedNode};
 use scan_model::Hit;
-use std::alloc::Global;
+use std::alloc::{AllocError, Global};
 use tree_shape::Node;
 
 /// A walk from the root, in progress.
@@ -33,7 +33,7 @@ pub struct Walk {
 
 impl Walk {
     // Makes a walk that needs only the root.
-    fn begin(alloc: Global, root: u32) -> Result<Self, Memory>
+    fn begin(alloc: Global, root: u32) -> Result<Self, AllocError>
         ensures taken { IfOk result (λ walk. walk.taken ≡ 0) }
         ensures hits { IfOk result (λ walk. walk.hits.items ≡ []) }
         ensures stack { IfOk result (λ walk. walk.stack.items ≡ root_need root ∷ []) }
@@ -54,7 +54,7 @@ impl Walk {
 }
 
 // Puts the needs on the stack, so that the first of them is on top.
-pub fn put_on_top<T: Drop>(stack: &mut Vec<T>, needs: &mut Vec<T>) -> Result<(), Memory>
+pub fn put_on_top<T: Drop>(stack: &mut Vec<T>, needs: &mut Vec<T>) -> Result<(), AllocError>
     ensures { OnOk result (reverse stack.new.items ≡ needs.old.items ++ reverse stack.old.items) }
 {
     while let Some(need) = needs.pop() {
@@ -89,7 +89,7 @@ fn check_node<R: Ruler>(
     node: &Node,
     marks: &[Mark],
     walk: &mut Walk,
-) -> Result<Option<u32>, Memory>
+) -> Result<Option<u32>, AllocError>
     requires long { length marks.now ≡ entry_count node.now }
     requires few { entry_count node.now < 2 ^ 32 }
     ensures metric { R.metric ruler.new ≡ R.metric ruler.old }

@@ -2,8 +2,7 @@ ghost use Rattle.std.specs.Thread.{IsSync};
 
 use crate::Meeting;
 use bulk_load::{Crew, Loading, Made, Placing, Scout, Set, hints_by_threads, made_by_threads};
-use metric_laws::Memory;
-use std::alloc::Global;
+use std::alloc::{AllocError, Global};
 use std::thread::Threads;
 use tree_growth::Group;
 
@@ -31,7 +30,7 @@ impl<R: Threads + Sync> Scout<Meeting<'_>> for Threaded<'_, R> {
         placing: &Placing<'_, Meeting<'_>>,
         counts: &[usize],
         place: usize,
-    ) -> Result<Vec<Option<u32>>, Memory> {
+    ) -> Result<Vec<Option<u32>>, AllocError> {
         hints_by_threads(self.rt, alloc, placing, counts, place)
     }
 }
@@ -43,7 +42,7 @@ impl<R: Threads + Sync> Crew<Meeting<'_>> for Threaded<'_, R> {
         loading: &Loading<'_, Meeting<'_>>,
         set: &Set<'_>,
         groups: &[Group],
-    ) -> Result<Option<Vec<Result<Made, Memory>>>, Memory> {
+    ) -> Result<Option<Vec<Result<Made, AllocError>>>, AllocError> {
         let parts = made_by_threads(self.rt, alloc, loading, set, groups)?;
         Ok(Some(parts))
     }

@@ -10,14 +10,14 @@ use crate::JoinFault;
 use crate::faults::fault_of;
 use crate::touring::tour;
 use crate::walking::{JoinWalk, walk_pairs};
-use log_model::{JoinLog, Joined, Memory, put_pairs_in_order};
+use log_model::{JoinLog, Joined, put_pairs_in_order};
 use metric_laws::{Listed, Ruler};
 use page_store::Pages;
-use std::alloc::Global;
+use std::alloc::{AllocError, Global};
 use tree_shape::Live;
 
 // Makes the answer of a whole walk.
-fn joined_of(alloc: Global, ll: &Live, lr: &Live, r: u64, walk: JoinWalk) -> Result<Joined, Memory>
+fn joined_of(alloc: Global, ll: &Live, lr: &Live, r: u64, walk: JoinWalk) -> Result<Joined, AllocError>
     ensures left { IfOk result (λ joined. joined.log.left ≡ (ll.now.generation, ll.now.root)) }
     ensures right { IfOk result (λ joined. joined.log.right ≡ (lr.now.generation, lr.now.root)) }
     ensures radius { IfOk result (λ joined. joined.log.r ≡ r) }

@@ -10,9 +10,9 @@ ghost use Rattle.log_model.specs.JoinWalk.{object_entry, subtree_entry, entries_
 ghost use Rattle.log_model.specs.JoinSteps.{search_within, apart_from, hits_among, needs_among};
 ghost use Rattle.metric_join.specs.Steps.{measured_at, marks_for, pairs_for, TakesEntries, CountsMarks};
 
-use log_model::{JoinNeed, JoinProbe, Mark, Matches, Memory, entry_count, is_far, is_skipped};
+use log_model::{JoinNeed, JoinProbe, Mark, Matches, entry_count, is_far, is_skipped};
 use metric_laws::Ruler;
-use std::alloc::Global;
+use std::alloc::{AllocError, Global};
 use tree_shape::{InnerEntries, InnerRef, InnerView, LeafEntries, LeafRef, LeafView, Node};
 
 /// The result of opening a pair.
@@ -52,7 +52,7 @@ fn measured_mark<R: Ruler>(ruler: &mut R, probe: JoinProbe, point: &[u32], radiu
 
 impl Opening {
     // Makes an opening of no entries yet, with room for `entries` marks. Its pairs reuse the memory of `needs`, which is empty.
-    fn new(alloc: Global, entries: usize, needs: Vec<JoinNeed>) -> Result<Self, Memory>
+    fn new(alloc: Global, entries: usize, needs: Vec<JoinNeed>) -> Result<Self, AllocError>
         requires { needs.items ≡ [] }
         ensures marks { IfOk result (λ opening. opening.marks.items ≡ []) }
         ensures hits { IfOk result (λ opening. opening.matches.hits.items ≡ []) }
@@ -68,7 +68,7 @@ impl Opening {
     }
 
     // Marks entries Skip until `entries` are marked.
-    fn skip_up_to(&mut self, entries: usize) -> Result<(), Memory>
+    fn skip_up_to(&mut self, entries: usize) -> Result<(), AllocError>
         requires { length self.old.marks.items ≤ entries }
         ensures marks { OnOk result
             (self.new.marks.items ≡ self.old.marks.items ++ replicate (entries - length self.old.marks.items) Skip) }
@@ -141,7 +141,7 @@ fn measure_object<R: Ruler>(
     probe: JoinProbe,
     entry: LeafRef,
     opening: &mut Opening,
-) -> Result<(), Memory>
+) -> Result<(), AllocError>
     requires { far_stored probe.need.now.apart (leaf_of entry).parent probe.rho (radius_of (other probe.need.now)) ≡ false }
     ensures metric { R.metric ruler.new ≡ R.metric ruler.old }
     ensures counted { OnOk result (CountsMarks (R.used ruler.old) (R.used ruler.new) opening.old.marks.items opening.new.marks.items) }
@@ -164,7 +164,7 @@ fn measure_subtree<R: Ruler>(
     level: u8,
     entry: InnerRef,
     opening: &mut Opening,
-) -> Result<(), Memory>
+) -> Result<(), AllocError>
     requires { far_stored probe.need.now.apart (inner_of entry).parent probe.rho
         ((inner_of entry).radius + radius_of (other probe.need.now)) ≡ false }
     ensures metric { R.metric ruler.new ≡ R.metric ruler.old }
@@ -188,7 +188,7 @@ fn mark_leaf<R: Ruler>(
     probe: JoinProbe,
     entries: &LeafEntries,
     opening: &mut Opening,
-) -> Result<(), Memory>
+) -> Result<(), AllocError>
     requires { opening.old.marks.items ≡ [] }
     ensures metric { R.metric ruler.new ≡ R.metric ruler.old }
     ensures counted { OnOk result (CountsMarks (R.used ruler.old) (R.used ruler.new) opening.old.marks.items opening.new.marks.items) }
@@ -216,7 +216,7 @@ fn mark_inner<R: Ruler>(
     level: u8,
     entries: &InnerEntries,
     opening: &mut Opening,
-) -> Result<(), Memory>
+) -> Result<(), AllocError>
     requires { opening.old.marks.items ≡ [] }
     ensures metric { R.metric ruler.new ≡ R.metric ruler.old }
     ensures counted { OnOk result (CountsMarks (R.used ruler.old) (R.used ruler.new) opening.old.marks.items opening.new.marks.items) }
@@ -244,7 +244,7 @@ pub fn open_node<R: Ruler>(
     probe: JoinProbe,
     node: &Node,
     needs: Vec<JoinNeed>,
-) -> Result<Opening, Memory>
+) -> Result<Opening, AllocError>
     requires { needs.items ≡ [] }
     ensures metric { R.metric ruler.new ≡ R.metric ruler.old }
     ensures counted { IfOk result (λ opening. CountsUpTo (R.used ruler.old) (R.used ruler.new) (measured_by opening.marks.items)) }

@@ -11,11 +11,11 @@ ghost use Rattle.metric_join.specs.Steps.{following, record_for, weight, weight_
 use crate::JoinFault;
 use crate::faults::fault_of;
 use crate::opening::{Opening, open_node};
-use log_model::{JoinNeed, JoinProbe, JoinRecord, Memory};
+use log_model::{JoinNeed, JoinProbe, JoinRecord};
 use metric_laws::{BOUND, Listed, Ruler};
 use page_store::{PageFault, Pages, SharedNode};
 use scan_model::Pair;
-use std::alloc::Global;
+use std::alloc::{AllocError, Global};
 use std::mem;
 use tree_shape::Live;
 
@@ -68,7 +68,7 @@ pub struct JoinWalk {
 
 impl JoinWalk {
     /// Begins a walk with the pair of roots.
-    pub fn begin(alloc: Global, left: &Live, right: &Live, r: u64) -> Result<Self, Memory>
+    pub fn begin(alloc: Global, left: &Live, right: &Live, r: u64) -> Result<Self, AllocError>
         ensures rho { IfOk result (λ walk. walk.rho ≡ min r bound) }
         ensures records { IfOk result (λ walk. walk.records.items ≡ []) }
         ensures hits { IfOk result (λ walk. walk.hits.items ≡ []) }
@@ -96,7 +96,7 @@ impl JoinWalk {
     }
 
     // Takes in what the opening of a pair made: its record, its answers, and the pairs that it needs, which come next.
-    fn take(&mut self, waiting: &Waiting, opening: Opening) -> Result<(), Memory>
+    fn take(&mut self, waiting: &Waiting, opening: Opening) -> Result<(), AllocError>
         ensures rho { self.new.rho ≡ self.old.rho }
         ensures records { OnOk result (self.new.records.items ≡ self.old.records.items ++ record_for waiting.now opening.marks.items ∷ []) }
         ensures hits { OnOk result (self.new.hits.items ≡ self.old.hits.items ++ opening.matches.hits.items) }
@@ -139,7 +139,7 @@ fn put_on_top(
     stack: &mut Vec<Waiting>,
     waiting: &Waiting,
     needs: Vec<JoinNeed>,
-) -> Result<Vec<JoinNeed>, Memory>
+) -> Result<Vec<JoinNeed>, AllocError>
     ensures stack { OnOk result (reverse stack.new.items ≡ map (following waiting.now) needs.items ++ reverse stack.old.items) }
     ensures empty { IfOk result (λ list. list.items ≡ []) }
 {

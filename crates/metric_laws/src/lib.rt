@@ -15,6 +15,3 @@ pub use point::Point;
 pub use pruning::{cap, centre_test, pair_test, parent_test};
 pub use rows::Rows;
 pub use ruler::{Meter, Ruler};
-
-/// The error of a call that found no memory.
-pub type Memory = std::alloc::AllocError;

@@ -1,9 +1,8 @@
 ghost use Rattle.std.specs.Prelude.{◌≡◌, ◌≤◌, ◌+◌, List, ℕ, length, take, drop, IfOk};
 ghost use Rattle.std.specs.Arc.{arc_slice_items};
 
-use crate::Memory;
 use smallvec::SmallVec;
-use std::alloc::Global;
+use std::alloc::{AllocError, Global};
 use std::marker::Model;
 use std::sync::ArcSlice;
 
@@ -45,7 +44,7 @@ impl Point {
     /// Makes a point of a copy of `coordinates`.
     // A call would pass the coordinates through memory twice.
     #[inline(always)]
-    pub fn new(alloc: Global, coordinates: &[u32]) -> Result<Self, Memory>
+    pub fn new(alloc: Global, coordinates: &[u32]) -> Result<Self, AllocError>
         ensures { IfOk result (λ p. p ≡ coordinates.now) }
     {
         let coordinates = SmallVec::from_slice(alloc, coordinates)?;
@@ -55,7 +54,7 @@ impl Point {
     }
 
     /// Makes a point of the `len` numbers from `start` on, which it shares with `numbers`.
-    pub fn part_of(numbers: &ArcSlice<u32>, start: usize, len: usize) -> Result<Self, Memory>
+    pub fn part_of(numbers: &ArcSlice<u32>, start: usize, len: usize) -> Result<Self, AllocError>
         requires { start + len ≤ length (arc_slice_items numbers.now) }
         ensures { IfOk result (λ p. p ≡ take len (drop start (arc_slice_items numbers.now))) }
     {
@@ -70,7 +69,7 @@ impl Point {
     }
 
     /// Makes the same point once more. It shares what this one shares.
-    pub fn share(&self, alloc: Global) -> Result<Self, Memory>
+    pub fn share(&self, alloc: Global) -> Result<Self, AllocError>
         ensures { IfOk result (λ p. p ≡ self.now) }
     {
         match &self.place {

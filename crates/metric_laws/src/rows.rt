@@ -1,7 +1,6 @@
 ghost use Rattle.std.specs.Prelude.{◌≡◌, ◌==◌, ◌<◌, ◌++◌, [], ◌∷◌, slice_index_or, length, OnOk, OnErr};
 ghost use Rattle.metric_laws.specs.Rows.{Table};
 
-use crate::Memory;
 use std::alloc::{AllocError, Global};
 use std::marker::Model;
 
@@ -35,7 +34,7 @@ impl Rows {
         }
     }
 
-    pub fn push(&mut self, p: &[u32]) -> Result<(), Memory>
+    pub fn push(&mut self, p: &[u32]) -> Result<(), AllocError>
         requires { length p.now ≡ self.old.dimension }
         ensures ok { OnOk result (self.new ≡ record self.old { points = self.old.points ++ p.now ∷ [] }) }
         ensures err { OnErr result (self.new ≡ self.old) }

@@ -14,7 +14,7 @@ ghost use Rattle.mtree_c.specs.Answers.{ComesTo, HandsAnswer, HasNoAnswer, IsUna
 use crate::rooms::put_hits;
 use crate::{DAMAGED, MEMORY, NO_QUERY, SHORT};
 use caller_ends::{Gathered, put_front};
-use image_answers::{Memory, Outcome, nearest_outcome, range_outcome};
+use image_answers::{Outcome, nearest_outcome, range_outcome};
 use job_files::{open_index, space_of};
 use log_model::Log;
 use metric_laws::{Listed, Point};
@@ -24,7 +24,7 @@ use prune_log::{encode_log, frame};
 use rows_text::Reply;
 use scan_model::Hit;
 use slice_disk::SliceDisk;
-use std::alloc::Global;
+use std::alloc::{AllocError, Global};
 use tree_shape::Live;
 
 /// An object in the answer to a query.
@@ -77,7 +77,7 @@ pub fn open_file(alloc: Global, file: &[u8]) -> Result<(Head, Live), u8>
 }
 
 // Returns the answer in the outcome of a query, or the status where there is none.
-pub fn answer_of(came: Result<Outcome, Memory>) -> Result<Answer, u8>
+pub fn answer_of(came: Result<Outcome, AllocError>) -> Result<Answer, u8>
     requires { IfOk came IsValid }
     ensures each { IfOk result (λ a. length a.tags ≡ length a.hits) }
     ensures log { IfOk result (λ a. IsValidLog a.log) }
@@ -142,7 +142,7 @@ fn nearest_answer(alloc: Global, file: &[u8], point: &[u32], count: u64) -> Resu
 }
 
 // Returns the frame of a log, or nothing where there is no room at all.
-fn frame_for(alloc: Global, log: &Log, room: &[u8]) -> Result<Vec<u8>, Memory>
+fn frame_for(alloc: Global, log: &Log, room: &[u8]) -> Result<Vec<u8>, AllocError>
     requires { IsValidLog log.now }
     ensures { IfOk result (λ bytes. bytes.items ≡ frame_for room.now log.now) }
 {

@@ -10,14 +10,14 @@ ghost use Rattle.mtree_c.specs.Each.{AnswersRows, AnswersTo, AsksSome, HandsEach
 
 use crate::answering::{Answer, TaggedHit, answer_of, open_file};
 use crate::{MEMORY, NO_QUERY, SHORT};
-use image_answers::{Memory, Outcome, cached_pages, nearest_on, range_on};
+use image_answers::{Outcome, cached_pages, nearest_on, range_on};
 use job_files::space_of;
 use metric_laws::{Metric, Point};
 use node_page::Head;
 use page_cache::Cached;
 use page_store::{Image, ImagePages};
 use scan_model::Hit;
-use std::alloc::Global;
+use std::alloc::{AllocError, Global};
 use tree_shape::Live;
 
 /// The greatest number of nodes that a call keeps while it answers. They take some 64 MiB, at 4096 bytes each.
@@ -77,7 +77,7 @@ fn outcome_of<M: Metric>(
     live: &Live,
     ask: Ask,
     point: &[u32],
-) -> Result<Outcome, Memory>
+) -> Result<Outcome, AllocError>
     requires few { live.now.pages ≤ 2 ^ 24 }
     requires some { AsksSome ask }
     requires pages { ArePagesOf (M.space metric) live.now (bytes_in pages.old.inner.image) pages.old }
@@ -112,7 +112,7 @@ fn answer_on(
 }
 
 // Adds `hits` with their `tags` at the end of `all`.
-fn push_hits(all: &mut Vec<TaggedHit>, hits: &[Hit], tags: &[u64]) -> Result<(), Memory>
+fn push_hits(all: &mut Vec<TaggedHit>, hits: &[Hit], tags: &[u64]) -> Result<(), AllocError>
     requires { length tags.now ≡ length hits.now }
     ensures { OnOk result (all.new.items ≡ all.old.items ++ tagged hits.now tags.now) }
 {
@@ -127,7 +127,7 @@ fn push_hits(all: &mut Vec<TaggedHit>, hits: &[Hit], tags: &[u64]) -> Result<(),
 }
 
 // Adds `answer`, which is to one more point, to `joined`. Drops its log.
-fn push_answer(joined: &mut Joined, answer: Answer) -> Result<(), Memory>
+fn push_answer(joined: &mut Joined, answer: Answer) -> Result<(), AllocError>
     requires { length answer.tags ≡ length answer.hits }
     ensures hits { OnOk result (joined.new.hits.items ≡ joined.old.hits.items ++ tagged answer.hits answer.tags) }
     ensures counts { OnOk result (joined.new.counts.items ≡ joined.old.counts.items ++ length answer.hits ∷ []) }

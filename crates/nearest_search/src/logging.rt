@@ -7,14 +7,14 @@ ghost use Rattle.nearest_search.specs.RebuiltLog.{TakesSeen, IsRebuiltLog};
 
 use crate::kept::{Kept, Turn};
 use crate::seen::{Seen, Sight};
-use log_model::{Mark, Memory, Need, Record, Traversal};
+use log_model::{Mark, Need, Record, Traversal};
 use metric_laws::Listed;
 use scan_model::Hit;
-use std::alloc::Global;
+use std::alloc::{AllocError, Global};
 use tree_shape::Live;
 
 // Appends the objects of `seen` that are marked Near at the radius `rho` to `hits`.
-fn push_hits(hits: &mut Vec<Hit>, rho: u64, seen: &[Sight]) -> Result<(), Memory>
+fn push_hits(hits: &mut Vec<Hit>, rho: u64, seen: &[Sight]) -> Result<(), AllocError>
     ensures { OnOk result (hits.new.items ≡ hits.old.items ++ map hit_seen (seen_near rho seen.now)) }
 {
     for sight in seen {
@@ -30,7 +30,7 @@ fn push_hits(hits: &mut Vec<Hit>, rho: u64, seen: &[Sight]) -> Result<(), Memory
 }
 
 // Pushes the subtrees of `seen` that are marked Near at the radius `rho` on the stack, so that the first of them is on top.
-fn push_needs(stack: &mut Vec<Need>, rho: u64, seen: &[Sight]) -> Result<(), Memory>
+fn push_needs(stack: &mut Vec<Need>, rho: u64, seen: &[Sight]) -> Result<(), AllocError>
     ensures { OnOk result (reverse stack.new.items ≡ map need_seen (seen_near rho seen.now) ++ reverse stack.old.items) }
 {
     for i in (0..seen.len()).rev() {
@@ -47,7 +47,7 @@ fn push_needs(stack: &mut Vec<Need>, rho: u64, seen: &[Sight]) -> Result<(), Mem
 }
 
 // Returns the least marks of `seen` at the radius `rho`.
-fn marks_at(alloc: Global, rho: u64, seen: &[Sight]) -> Result<Vec<Mark>, Memory>
+fn marks_at(alloc: Global, rho: u64, seen: &[Sight]) -> Result<Vec<Mark>, AllocError>
     ensures { IfOk result (λ marks. marks.items ≡ map (mark_at rho) seen.now) }
 {
     let mut marks = Vec::with_capacity(alloc, seen.len())?;
@@ -64,7 +64,7 @@ fn push_record(
     rho: u64,
     page: u32,
     seen: &[Sight],
-) -> Result<(), Memory>
+) -> Result<(), AllocError>
     ensures { OnOk result (records.new.items ≡ records.old.items ++ record { page = page; marks = map (mark_at rho) seen.now } ∷ []) }
 {
     let marks = marks_at(alloc, rho, seen)?;
@@ -82,7 +82,7 @@ fn take_seen(
     rho: u64,
     need: Need,
     seen: &Seen,
-) -> Result<(), Memory>
+) -> Result<(), AllocError>
     ensures { OnOk result (TakesSeen rho need seen.now walk.old walk.new) }
 {
     match seen {
@@ -99,7 +99,7 @@ fn take_seen(
 
 /// Walks over what is kept of the opened pages, with the least marks at the final radius `rho`. No page is read and no distance is
 /// computed.
-pub fn rebuild_log(alloc: Global, rho: u64, live: &Live, kept: &Kept) -> Result<Traversal, Memory>
+pub fn rebuild_log(alloc: Global, rho: u64, live: &Live, kept: &Kept) -> Result<Traversal, AllocError>
     requires { KeepsFew (kept_seen kept.now) }
     ensures { IfOk result (λ walk. IsRebuiltLog rho (kept_seen kept.now) live.now walk.records.items walk.hits.items) }
 {

@@ -9,8 +9,8 @@ ghost use Rattle.page_cache.specs.Keeping.{kept_node, without, IsUsed, Agrees};
 ghost use Rattle.page_cache.specs.Cache.{asked_for};
 
 use crate::Kept;
-use page_store::{Memory, PageFault, Pages, SharedNode};
-use std::alloc::Global;
+use page_store::{PageFault, Pages, SharedNode};
+use std::alloc::{AllocError, Global};
 use std::marker::Model;
 
 /// Pages behind a cache. It keeps the nodes that were asked for last, and gives them again without a request to the pages behind.
@@ -35,7 +35,7 @@ impl<P: Pages> Model for Cached<P> {
 
 impl<P: Pages + Drop> Cached<P> {
     /// Puts an empty cache of at most `pages` nodes (at least 1) before `inner`. The count of requests is 0.
-    pub fn new(alloc: Global, inner: P, pages: usize) -> Result<Self, Memory>
+    pub fn new(alloc: Global, inner: P, pages: usize) -> Result<Self, AllocError>
         requires { 1 ≤ pages }
         ensures { IfOk result (λ cached. cached ≡ record { inner = inner; kept = lru_cache [] pages; asked = 0 }) }
     {

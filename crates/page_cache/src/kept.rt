@@ -5,8 +5,8 @@ ghost use Rattle.lru.specs.LruCache.{lru_cache};
 ghost use Rattle.page_cache.specs.Keeping.{kept_node, used, without};
 
 use lru::LruCache;
-use page_store::{Memory, SharedNode};
-use std::alloc::Global;
+use page_store::SharedNode;
+use std::alloc::{AllocError, Global};
 use std::marker::Model;
 use std::num::NonZeroUsize;
 
@@ -30,7 +30,7 @@ impl Model for Kept {
 
 impl Kept {
     /// Makes an empty cache of at most `pages` nodes (at least 1). Memory for a node is taken when it comes.
-    pub fn new(alloc: Global, pages: usize) -> Result<Self, Memory>
+    pub fn new(alloc: Global, pages: usize) -> Result<Self, AllocError>
         requires { 1 ≤ pages }
         ensures { IfOk result (λ kept. kept ≡ lru_cache [] pages) }
     {
@@ -66,7 +66,7 @@ impl Kept {
     }
 
     // Returns the cached node of page `page`, which becomes the last used.
-    pub(crate) fn share_of(&mut self, page: u32) -> Result<Option<SharedNode>, Memory>
+    pub(crate) fn share_of(&mut self, page: u32) -> Result<Option<SharedNode>, AllocError>
         ensures found { IfOk result (λ node. node ≡ kept_node self.old page) }
         ensures unkept { kept_node self.old page ≡ None → result ≡ Ok None }
         ensures kept { MatchResult result

@@ -25,6 +25,3 @@ pub use staging::{Placed, Staged, StagedNode};
 
 /// A node that several may hold.
 pub type SharedNode = tree_shape::Shared<tree_shape::Node>;
-
-/// The error when memory runs out.
-pub type Memory = std::alloc::AllocError;

@@ -7,7 +7,6 @@ ghost use Rattle.page_store.specs.Numbers.{number_at, numbered, AreNumbers};
 ghost use Rattle.page_store.specs.Placing.{HasRoomCause, IsPlacement};
 ghost use Rattle.page_store.specs.declared.settling.RoomFault.TheVariants.{Memory as NoMemory};
 
-use crate::Memory;
 use crate::numbering::Numbering;
 use crate::staging::{Placed, Staged};
 use metric_laws::Listed;
@@ -54,7 +53,7 @@ fn stage_all(
     numbering: &Numbering<'_>,
     nodes: &mut Vec<Node>,
     staged: &mut Staged,
-) -> Result<(), Memory>
+) -> Result<(), AllocError>
     requires first { numbering.now.first ≤ 2 ^ 24 }
     requires few { length nodes.old.items ≤ 2 ^ 26 }
     requires numbers { AreNumbers numbering.now.first numbering.now.numbers.now }
@@ -75,7 +74,7 @@ fn number_nodes(
     alloc: Global,
     numbering: &Numbering<'_>,
     mut nodes: Vec<Node>,
-) -> Result<Staged, Memory>
+) -> Result<Staged, AllocError>
     requires first { numbering.now.first ≤ 2 ^ 24 }
     requires few { length nodes.items ≤ 2 ^ 26 }
     requires numbers { AreNumbers numbering.now.first numbering.now.numbers.now }

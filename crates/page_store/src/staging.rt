@@ -2,9 +2,8 @@ ghost use Rattle.std.specs.Prelude.{◌≡◌, ◌<◌, ◌++◌, ◌==◌, [], 
 ghost use Rattle.page_store.specs.Staging.{IsFree, staged_for, AreApart};
 ghost use Rattle.page_store.specs.declared.staging.StagedNode.{StagedNode};
 
-use crate::Memory;
 use metric_laws::Listed;
-use std::alloc::Global;
+use std::alloc::{AllocError, Global};
 use std::marker::Model;
 use tree_shape::{Live, Node};
 
@@ -46,7 +45,7 @@ impl Staged {
     }
 
     /// Stages `node` for page `page`.
-    pub fn stage(&mut self, page: u32, node: Node) -> Result<(), Memory>
+    pub fn stage(&mut self, page: u32, node: Node) -> Result<(), AllocError>
         requires { IsFree self.old page }
         ensures ok { OnOk result (self.new ≡ self.old ++ record { page = page; node = node } ∷ []) }
         ensures err { OnErr result (self.new ≡ self.old) }

@@ -7,8 +7,8 @@ ghost use Rattle.page_store.specs.Shelf.{HoldsSame, IsPassing};
 ghost use Rattle.page_store.specs.Tours.{children, HasTourCause};
 ghost use Rattle.page_tour.specs.Courses.{HasNodes, OpensNext, StopsNext};
 
-use page_store::{Memory, PageFault, Pages, SharedNode};
-use std::alloc::Global;
+use page_store::{PageFault, Pages, SharedNode};
+use std::alloc::{AllocError, Global};
 use std::marker::Model;
 use tree_shape::{Live, Node};
 
@@ -34,7 +34,7 @@ impl Model for Tour {
 }
 
 // Pushes the pages that `node` names on the stack, so that the first of them is on top.
-fn push_children(stack: &mut Vec<u32>, node: &Node) -> Result<(), Memory>
+fn push_children(stack: &mut Vec<u32>, node: &Node) -> Result<(), AllocError>
     ensures { OnOk result (reverse stack.new.items ≡ children node.now ++ reverse stack.old.items) }
 {
     if let Node::Inner { entries, .. } = node {
@@ -47,7 +47,7 @@ fn push_children(stack: &mut Vec<u32>, node: &Node) -> Result<(), Memory>
 
 impl Tour {
     /// Begins a walk at the root of `live`. It may open as many pages as the file has.
-    pub fn begin(alloc: Global, live: &Live) -> Result<Self, Memory>
+    pub fn begin(alloc: Global, live: &Live) -> Result<Self, AllocError>
         ensures { IfOk result (λ tour. tour ≡ record { coming = live.now.root ∷ []; opened = 0; most = live.now.pages }) }
     {
         Ok(Tour {

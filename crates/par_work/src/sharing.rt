@@ -4,8 +4,7 @@ ghost use Rattle.std.specs.Prelude.{◌≡◌, ℕ, ◌-◌, ◌*◌, ◌<◌, �
 ghost use Rattle.par_work.specs.Meets.{MeetsFrom};
 
 use crate::pieces::{join_lists, piece_count, piece_end, piece_size};
-use metric_laws::Memory;
-use std::alloc::Global;
+use std::alloc::{AllocError, Global};
 use std::thread;
 use std::thread::Threads;
 
@@ -15,7 +14,7 @@ fn answers_of<X: Send + Drop, F: Fn(usize) -> X>(
     work: &F,
     from: usize,
     to: usize,
-) -> Result<Vec<X>, Memory>
+) -> Result<Vec<X>, AllocError>
     requires from { from ≤ to }
     requires calls { (i : ℕ) → i < to → F.pre work.now i }
     ensures len { IfOk result (λ v. vec_len v ≡ to - from) }
@@ -35,7 +34,7 @@ fn piece<X: Send + Drop, F: Fn(usize) -> X>(
     count: usize,
     size: usize,
     number: usize,
-) -> Result<Vec<X>, Memory>
+) -> Result<Vec<X>, AllocError>
     requires calls { (i : ℕ) → i < count → F.pre work.now i }
     requires inside { number * size < count }
     ensures len { IfOk result (λ v. vec_len v ≡ min size (count - number * size)) }
@@ -50,7 +49,7 @@ pub fn in_turn<X: Send + Drop, F: Fn(usize) -> X>(
     alloc: Global,
     count: usize,
     work: &F,
-) -> Result<Vec<X>, Memory>
+) -> Result<Vec<X>, AllocError>
     requires calls { (i : ℕ) → i < count → F.pre work.now i }
     ensures len { IfOk result (λ v. vec_len v ≡ count) }
     ensures each { IfOk result (λ v. (i : ℕ) (x : X) → slice_get v.items i ≡ Some x → F.post work.now i x) }
@@ -66,7 +65,7 @@ pub fn share<R: Threads + Sync, X: Send + Drop, F: Fn(usize) -> X + Sync>(
     count: usize,
     workers: usize,
     work: &F,
-) -> Result<Vec<X>, Memory>
+) -> Result<Vec<X>, AllocError>
     requires calls { (i : ℕ) → i < count → F.pre work.now i }
     requires some { 1 ≤ workers }
     requires few { workers ≤ 64 }
@@ -75,7 +74,7 @@ pub fn share<R: Threads + Sync, X: Send + Drop, F: Fn(usize) -> X + Sync>(
 {
     let size = piece_size(count, workers);
     let pieces = piece_count(count, size);
-    let part = |number: usize| -> Result<Vec<X>, Memory>
+    let part = |number: usize| -> Result<Vec<X>, AllocError>
         requires { ((i : ℕ) → i < count → F.pre work.now i) × (number * size < count) }
         ensures { IfOk result (λ v. (vec_len v ≡ min size (count - number * size))
             × MeetsFrom (F.post work.entry.now) (number * size) v.items) }

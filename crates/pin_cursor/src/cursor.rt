@@ -8,7 +8,6 @@ ghost use Rattle.metric_laws.specs.Counts.{CountsUpTo, count_up};
 ghost use Rattle.pin_cursor.specs.Cursor.{OpenCursor, begun, IsCursorOn, IsWalked, HoldsTree};
 ghost use Rattle.pin_cursor.specs.Steps.{HasStepCause, HasGiven, IsAccounted, IsReachedFrom, GivesNext};
 
-use crate::Memory;
 use crate::stepping::{Goal, advance};
 use crate::waiting::Subtree;
 use crate::waits::{Candidates, Subtrees};
@@ -16,7 +15,7 @@ use crate::walk::Walk;
 use metric_laws::{Listed, Point, Ruler};
 use page_store::{PageFault, Pages};
 use scan_model::Hit;
-use std::alloc::Global;
+use std::alloc::{AllocError, Global};
 use std::marker::Model;
 use tree_shape::Live;
 
@@ -58,7 +57,7 @@ pub struct Stepped {
 
 impl Cursor {
     /// Opens a cursor before the first object. Only its root waits.
-    pub fn open(alloc: Global, live: Live, q: Point) -> Result<Self, Memory>
+    pub fn open(alloc: Global, live: Live, q: Point) -> Result<Self, AllocError>
         ensures begun { IfOk result (λ c. c ≡ begun live q) }
         ensures starts { IfOk result (λ c. (s : Space) (nodes : Nodes) → IsSpace s → IsSoundTree s nodes live →
             IsTrue (s.is_point q) → IsCursorOn s nodes c) }

@@ -11,6 +11,3 @@ mod walk;
 
 pub use cursor::{Cursor, Stepped};
 pub use waiting::{Candidate, Subtree};
-
-/// The error when memory runs out.
-pub type Memory = std::alloc::AllocError;

@@ -1,9 +1,8 @@
 ghost use Rattle.std.specs.Prelude.{◌≡◌, length, min, take, drop, IfOk};
 ghost use Rattle.rows_text.specs.Meaning.{advanced};
 
-use crate::Memory;
 use scan_model::Hit;
-use std::alloc::Global;
+use std::alloc::{AllocError, Global};
 use std::marker::Model;
 
 /// An open cursor: all hits of its query, and how many of them were given.
@@ -56,7 +55,7 @@ impl OpenCursor {
     }
 
     /// Copies the next `n` hits, or all that are left.
-    pub fn next_hits(&self, alloc: Global, n: u64) -> Result<Vec<Hit>, Memory>
+    pub fn next_hits(&self, alloc: Global, n: u64) -> Result<Vec<Hit>, AllocError>
         ensures { IfOk result (λ hits. hits.items ≡ take n self.now.hits) }
     {
         self.hits[self.given..self.given + self.more(n)]
@@ -66,7 +65,7 @@ impl OpenCursor {
     }
 
     /// Copies the tags of the next `n` hits, or of all that are left.
-    pub fn next_tags(&self, alloc: Global, n: u64) -> Result<Vec<u64>, Memory>
+    pub fn next_tags(&self, alloc: Global, n: u64) -> Result<Vec<u64>, AllocError>
         ensures tags { IfOk result (λ tags. tags.items ≡ take n self.now.tags) }
         ensures count { IfOk result (λ tags. length tags.items ≡ length (take n self.now.hits)) }
     {

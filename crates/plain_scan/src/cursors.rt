@@ -2,12 +2,11 @@ ghost use Rattle.std.specs.Prelude.{◌≡◌, ◌<◌, ◌+◌, ◌^◌, ◌==�
 ghost use Rattle.rows_text.specs.Meaning.{Holdings, TagsAre, advanced, close_from, cursor_named, most_cursors, next_from};
 ghost use Rattle.plain_scan.specs.OpenCursors.{opened, with_cursors};
 
-use crate::Memory;
 use crate::cursor::OpenCursor;
 use metric_laws::Listed;
 use rows_text::{Refusal, Reply};
 use scan_model::Hit;
-use std::alloc::Global;
+use std::alloc::{AllocError, Global};
 use std::marker::Model;
 
 const MOST_CURSORS: usize = 16;
@@ -55,7 +54,7 @@ impl Cursors {
     }
 
     /// Opens a cursor with all of `hits` still to give, and returns its number.
-    pub fn open(&mut self, hits: Vec<Hit>, tags: Vec<u64>) -> Result<u32, Memory>
+    pub fn open(&mut self, hits: Vec<Hit>, tags: Vec<u64>) -> Result<u32, AllocError>
         requires tagged { length tags.items ≡ length hits.items }
         requires numbers { self.old.next + 1 < 2 ^ 32 }
         ensures number { IfOk result (λ number. number ≡ self.old.next) }
@@ -77,7 +76,7 @@ impl Cursors {
     }
 
     /// Returns the next `n` hits of cursor `number`, or all that are left.
-    pub fn advance(&mut self, alloc: Global, number: u32, n: u64) -> Result<Reply, Memory>
+    pub fn advance(&mut self, alloc: Global, number: u32, n: u64) -> Result<Reply, AllocError>
         ensures ok { (objects : Holdings) →
             IfOk result (λ reply. next_from (with_cursors objects self.old) number n
             (cursor_named number (with_cursors objects self.old)) ≡ record {

@@ -11,6 +11,3 @@ pub use cursors::Cursors;
 pub use list::PlainList;
 pub use points::has_points_of;
 pub use session::{Scan, ScanStop, run_script};
-
-/// The error when memory runs out.
-pub type Memory = std::alloc::AllocError;

@@ -4,13 +4,12 @@ ghost use Rattle.rows_text.specs.Readable.{IsReadable};
 ghost use Rattle.scan_model.specs.Scan.{nearest_hits};
 ghost use Rattle.plain_scan.specs.List.{state_of, IsListOf};
 
-use crate::Memory;
 use crate::cursors::Cursors;
 use crate::points::has_points_of;
 use metric_laws::{Listed, Metric, Point, Rows};
 use rows_text::{Command, Refusal, Reply};
 use scan_model::{Hit, scan_nearest, scan_range};
-use std::alloc::Global;
+use std::alloc::{AllocError, Global};
 
 /// The objects accepted so far, and the open cursors.
 #[derive(Drop)]
@@ -21,7 +20,7 @@ pub struct PlainList {
 }
 
 // Returns the tags of objects with their ids as tags.
-fn ids(alloc: Global, count: usize) -> Result<Vec<u64>, Memory>
+fn ids(alloc: Global, count: usize) -> Result<Vec<u64>, AllocError>
     ensures ids { IfOk result (λ ids. ids.items ≡ numbers_from 0 count) }
     ensures count { IfOk result (λ ids. length ids.items ≡ count) }
 {
@@ -46,7 +45,7 @@ impl PlainList {
     }
 
     // Adds one object.
-    fn insert(&mut self, limit: u32, p: &[u32], tag: u64) -> Result<Reply, Memory>
+    fn insert(&mut self, limit: u32, p: &[u32], tag: u64) -> Result<Reply, AllocError>
         requires dimension { length p.now ≡ self.old.rows.dimension }
         requires limit { length self.old.rows.points ≤ limit }
         ensures ok { IfOk result (λ reply. insert_step limit (state_of self.old) p.now tag
@@ -85,7 +84,7 @@ impl PlainList {
     }
 
     // Returns the tag of each hit.
-    fn tags_of(&self, alloc: Global, hits: &[Hit]) -> Result<Vec<u64>, Memory>
+    fn tags_of(&self, alloc: Global, hits: &[Hit]) -> Result<Vec<u64>, AllocError>
         ensures { IfOk result (λ tags. tags.items ≡ tags_of (state_of self.now).objects hits.now) }
     {
         let mut tags = Vec::new(alloc);
@@ -95,7 +94,7 @@ impl PlainList {
         Ok(tags)
     }
 
-    fn hits_reply(&self, alloc: Global, hits: Vec<Hit>) -> Result<Reply, Memory>
+    fn hits_reply(&self, alloc: Global, hits: Vec<Hit>) -> Result<Reply, AllocError>
         ensures reply { IfOk result (λ reply. reply ≡ hits_reply (state_of self.now).objects hits.items) }
         ensures tagged { IfOk result TagsAre }
     {
@@ -109,7 +108,7 @@ impl PlainList {
     // Opens a cursor over all objects.
     // Clauses: what is asked of the caller (`few`, `points`, `query`, `numbers`); the answer and the new state (`ok`, `tagged`); what stays
     // (`rows`, `tags`); what an error leaves (`err`).
-    fn open<M: Metric>(&mut self, alloc: Global, metric: &M, q: &[u32]) -> Result<Reply, Memory>
+    fn open<M: Metric>(&mut self, alloc: Global, metric: &M, q: &[u32]) -> Result<Reply, AllocError>
         requires few { length self.old.rows.points < 2 ^ 32 }
         requires points { All (λ p. IsTrue ((M.space metric.now).is_point p)) self.old.rows.points }
         requires query { IsTrue ((M.space metric.now).is_point q.now) }
@@ -138,7 +137,7 @@ impl PlainList {
         metric: &M,
         limit: u32,
         command: Command,
-    ) -> Result<Reply, Memory>
+    ) -> Result<Reply, AllocError>
         requires list { IsListOf (M.space metric.now) limit self.old }
         requires limit { limit < 2 ^ 32 - 1 }
         requires numbers { self.old.cursors.next + 1 < 2 ^ 32 }
@@ -190,7 +189,7 @@ impl PlainList {
         metric: &M,
         limit: u32,
         command: Command,
-    ) -> Result<Reply, Memory>
+    ) -> Result<Reply, AllocError>
         requires list { IsListOf (M.space metric.now) limit self.old }
         requires limit { limit < 2 ^ 32 - 1 }
         requires numbers { self.old.cursors.next + 1 < 2 ^ 32 }

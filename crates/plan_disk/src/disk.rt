@@ -7,8 +7,8 @@ ghost use Rattle.plan_disk.specs.Plan.{simulated, plan_state, file_of, IsWhole, 
 
 use crate::Step;
 use crate::patched::Patched;
-use disk_model::{Disk, Failed, Memory};
-use std::alloc::Global;
+use disk_model::{Disk, Failed};
+use std::alloc::{AllocError, Global};
 use std::marker::Model;
 
 /// A disk over the bytes of a file, which stay as they are, and the plan of what it was asked to do: its writes and syncs in their
@@ -96,7 +96,7 @@ impl<'a> PlanDisk<'a> {
     }
 
     // Makes a write. Where memory runs out, nothing changes.
-    fn write(&mut self, at: u64, bytes: &[u8]) -> Result<(), Memory>
+    fn write(&mut self, at: u64, bytes: &[u8]) -> Result<(), AllocError>
         requires { at + length bytes.now ≤ 2 ^ 37 }
         ensures next { self.new ≡ (if is_ok result then with_step self.old (write_step at bytes.now) bytes.now else self.old) }
         ensures whole { IsWhole self.old }
@@ -115,7 +115,7 @@ impl<'a> PlanDisk<'a> {
     }
 
     // Makes a sync. Where memory runs out, nothing changes.
-    fn sync_all(&mut self) -> Result<(), Memory>
+    fn sync_all(&mut self) -> Result<(), AllocError>
         ensures next { self.new ≡ (if is_ok result then with_step self.old sync_step [] else self.old) }
         ensures whole { IsWhole self.old }
     {
@@ -145,7 +145,7 @@ fn note(
     written: &mut Vec<u8>,
     step: Step,
     bytes: &[u8],
-) -> Result<(), Memory>
+) -> Result<(), AllocError>
     ensures steps { steps.new.items ≡ (if is_ok result then steps.old.items ++ step ∷ [] else steps.old.items) }
     ensures written { written.new.items ≡ (if is_ok result then written.old.items ++ bytes.now else written.old.items) }
 {

@@ -3,8 +3,7 @@ ghost use Rattle.std.specs.Prelude.{◌≡◌, ◌+◌, ◌-◌, ◌*◌, ◌^�
 ghost use Rattle.disk_model.specs.Disk.{Written};
 ghost use Rattle.plan_disk.specs.Patches.{Shows, HasPlaces, Keeps, page_at};
 
-use disk_model::Memory;
-use std::alloc::Global;
+use std::alloc::{AllocError, Global};
 use std::collections::BTreeMap;
 use std::marker::Model;
 
@@ -78,7 +77,7 @@ impl<'a> Patched<'a> {
     }
 
     /// Touches the pages of `size` places from `at` on. The file stays the same, even where memory runs out.
-    pub fn touch(&mut self, at: usize, size: usize) -> Result<(), Memory>
+    pub fn touch(&mut self, at: usize, size: usize) -> Result<(), AllocError>
         requires { at + size ≤ 2 ^ 37 }
         ensures base { self.new.base ≡ self.old.base }
         ensures same { (file : List ℕ) → Shows self.old file → Shows self.new file }
@@ -91,7 +90,7 @@ impl<'a> Patched<'a> {
     }
 
     // Touches one page.
-    fn touch_page(&mut self, page: usize) -> Result<(), Memory>
+    fn touch_page(&mut self, page: usize) -> Result<(), AllocError>
         requires { page ≤ 2 ^ 26 }
         ensures base { self.new.base ≡ self.old.base }
         ensures same { (file : List ℕ) → Shows self.old file → Shows self.new file }

@@ -4,8 +4,7 @@ ghost use Rattle.tree_growth.specs.Dealing.{size, count_on, is_on, side_at, firs
 ghost use Rattle.promote_split.specs.Steps.{kept, kept_if};
 
 use crate::Matrix;
-use metric_laws::Memory;
-use std::alloc::Global;
+use std::alloc::{AllocError, Global};
 use tree_growth::Side;
 
 // Returns whether two sides are the same.
@@ -150,7 +149,7 @@ fn side_by_nearer(first: &[u64], second: &[u64], pair: Promoted, i: usize) -> Si
 }
 
 // Deals each entry to the nearer promoted one.
-fn start_by_nearer(matrix: &Matrix, pair: Promoted, sides: &mut Vec<Side>) -> Result<(), Memory>
+fn start_by_nearer(matrix: &Matrix, pair: Promoted, sides: &mut Vec<Side>) -> Result<(), AllocError>
     requires a { pair.a < size matrix.now }
     requires b { pair.b < size matrix.now }
     ensures sides { OnOk result (sides.new.items ≡ by_nearer matrix.now pair.a pair.b) }
@@ -171,7 +170,7 @@ fn by_hyperplane(
     pair: Promoted,
     least: usize,
     sides: &mut Vec<Side>,
-) -> Result<(), Memory>
+) -> Result<(), AllocError>
     requires a { pair.a < size matrix.now }
     requires b { pair.b < size matrix.now }
     ensures sides { OnOk result (sides.new.items ≡ hyperplane matrix.now pair.a pair.b least) }
@@ -232,7 +231,7 @@ fn side_at_first(pair: Promoted, i: usize) -> Side
 }
 
 // Gives a group to the promoted entries alone.
-fn start_open(pair: Promoted, count: usize, sides: &mut Vec<Side>) -> Result<(), Memory>
+fn start_open(pair: Promoted, count: usize, sides: &mut Vec<Side>) -> Result<(), AllocError>
     ensures sides { OnOk result (sides.new.items ≡ map (only_promoted pair.a pair.b) (range_with_len 0 count)) }
     ensures long { OnOk result (length sides.new.items ≡ count) }
 {
@@ -244,7 +243,7 @@ fn start_open(pair: Promoted, count: usize, sides: &mut Vec<Side>) -> Result<(),
 }
 
 // Deals by the balanced partition.
-fn by_turns(matrix: &Matrix, pair: Promoted, sides: &mut Vec<Side>) -> Result<(), Memory>
+fn by_turns(matrix: &Matrix, pair: Promoted, sides: &mut Vec<Side>) -> Result<(), AllocError>
     requires a { pair.a < size matrix.now }
     requires b { pair.b < size matrix.now }
     requires two { 2 ≤ size matrix.now }
@@ -263,7 +262,7 @@ pub fn partition_into(
     split: u8,
     least: usize,
     sides: &mut Vec<Side>,
-) -> Result<(), Memory>
+) -> Result<(), AllocError>
     requires a { pair.a < size matrix.now }
     requires b { pair.b < size matrix.now }
     requires two { 2 ≤ size matrix.now }
@@ -278,7 +277,7 @@ pub fn partition_into(
 }
 
 // Appends the place of an entry that stands on the side.
-fn keep_place(on: Side, sides: &[Side], i: usize, places: &mut Vec<usize>) -> Result<(), Memory>
+fn keep_place(on: Side, sides: &[Side], i: usize, places: &mut Vec<usize>) -> Result<(), AllocError>
     requires { i < length sides.now }
     ensures { OnOk result (places.new.items ≡ (if is_on on (side_at sides.now i) then places.old.items ++ i ∷ [] else places.old.items)) }
 {
@@ -289,7 +288,7 @@ fn keep_place(on: Side, sides: &[Side], i: usize, places: &mut Vec<usize>) -> Re
 }
 
 // Returns the places of the entries on a side.
-fn places_on(alloc: Global, on: Side, sides: &[Side]) -> Result<Vec<usize>, Memory>
+fn places_on(alloc: Global, on: Side, sides: &[Side]) -> Result<Vec<usize>, AllocError>
     ensures { IfOk result (λ places. places.items ≡ members on sides.now) }
 {
     let mut places = Vec::with_capacity(alloc, sides.len())?;
@@ -309,7 +308,7 @@ pub fn partition(
     b: usize,
     split: u8,
     least: usize,
-) -> Result<(Vec<usize>, Vec<usize>), Memory>
+) -> Result<(Vec<usize>, Vec<usize>), AllocError>
     requires a { a < size matrix.now }
     requires b { b < size matrix.now }
     requires differ { a ≢ b }

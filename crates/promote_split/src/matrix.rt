@@ -5,8 +5,8 @@ ghost use Rattle.tree_growth.specs.Dealing.{Ball, Table, row, size, table_of};
 ghost use Rattle.promote_split.specs.Tables.{IsTable, HasCounted};
 
 use crate::Entry;
-use metric_laws::{Memory, Ruler};
-use std::alloc::Global;
+use metric_laws::Ruler;
+use std::alloc::{AllocError, Global};
 use std::marker::Model;
 
 /// The radii of a node's entries and the distances between them, each computed once. Contracts see the two lists, the distances
@@ -31,7 +31,7 @@ fn push_row<R: Ruler, E: Entry>(
     entries: &[E],
     to: &[u32],
     distances: &mut Vec<u64>,
-) -> Result<(), Memory>
+) -> Result<(), AllocError>
     requires { AllByRecursion (λ d. d ≤ bound) distances.old.items }
     ensures metric { R.metric ruler.new ≡ R.metric ruler.old }
     ensures counted { OnOk result (HasCounted (length entries.now) (R.used ruler.old) (R.used ruler.new)) }
@@ -52,7 +52,7 @@ impl Matrix {
         alloc: Global,
         ruler: &mut R,
         entries: &[E],
-    ) -> Result<Self, Memory>
+    ) -> Result<Self, AllocError>
         requires { AllByRecursion (λ e. (E.ball e).1 ≤ bound) entries.now }
         ensures metric { R.metric ruler.new ≡ R.metric ruler.old }
         ensures counted { OnOk result (HasCounted (length entries.now * length entries.now) (R.used ruler.old) (R.used ruler.new)) }

@@ -6,8 +6,8 @@ ghost use Rattle.tree_growth.specs.Dealing.{size, is_on, side_at, least_from, gr
 
 use crate::Matrix;
 use crate::dealing::{Promoted, is_same, partition_into};
-use metric_laws::{Memory, cap};
-use std::alloc::Global;
+use metric_laws::cap;
+use std::alloc::{AllocError, Global};
 use tree_growth::Side;
 
 /// The split policy of a node.
@@ -62,7 +62,7 @@ fn cost(
     least: usize,
     pair: Promoted,
     sides: &mut Vec<Side>,
-) -> Result<u64, Memory>
+) -> Result<u64, AllocError>
     requires a { pair.a < size matrix.now }
     requires b { pair.b < size matrix.now }
     requires two { 2 ≤ size matrix.now }
@@ -125,7 +125,7 @@ fn try_pair(
     pair: Promoted,
     best: Best,
     sides: &mut Vec<Side>,
-) -> Result<Best, Memory>
+) -> Result<Best, AllocError>
     requires a { pair.a < size matrix.now }
     requires b { pair.b < size matrix.now }
     requires differ { pair.a ≢ pair.b }
@@ -150,7 +150,7 @@ fn try_with(
     a: usize,
     best: Best,
     sides: &mut Vec<Side>,
-) -> Result<Best, Memory>
+) -> Result<Best, AllocError>
     requires a { a < size matrix.now }
     requires two { 2 ≤ size matrix.now }
     requires cost { best.cost ≡ pair_cost matrix.now policy.promote policy.split least best.pair }
@@ -176,7 +176,7 @@ pub fn promote(
     matrix: &Matrix,
     policy: Policy,
     least: usize,
-) -> Result<(usize, usize), Memory>
+) -> Result<(usize, usize), AllocError>
     requires { 2 ≤ size matrix.now }
     ensures pair { IfOk result (λ p. p ≡ promoted matrix.now policy.promote policy.split least) }
     ensures low { IfOk result (λ p. IsPair (size matrix.now) p) }

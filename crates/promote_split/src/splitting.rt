@@ -9,8 +9,8 @@ ghost use Rattle.promote_split.specs.Tables.{HasCounted};
 use crate::dealing::{Promoted, partition_into};
 use crate::promoting::radius_of;
 use crate::{Entry, Half, Halves, Matrix, Policy, promote};
-use metric_laws::{Listed, Memory, Point, Ruler};
-use std::alloc::Global;
+use metric_laws::{Listed, Point, Ruler};
+use std::alloc::{AllocError, Global};
 use tree_growth::Side;
 
 // The entries of the two groups.
@@ -27,7 +27,7 @@ fn put<E: Entry>(
     first: u64,
     second: u64,
     groups: &mut Groups<E>,
-) -> Result<(), Memory>
+) -> Result<(), AllocError>
     ensures first { OnOk result
         (groups.new.first.items ≡ (if is_on Side.First side then groups.old.first.items ++ E.with_parent entry first ∷ []
         else groups.old.first.items)) }
@@ -56,7 +56,7 @@ fn part<E: Entry>(
     first: &[u64],
     second: &[u64],
     groups: &mut Groups<E>,
-) -> Result<(), Memory>
+) -> Result<(), AllocError>
     requires sides { length sides.now ≡ length entries.old.items }
     requires first { length first.now ≡ length entries.old.items }
     requires second { length second.now ≡ length entries.old.items }
@@ -81,7 +81,7 @@ fn groups_of<E: Entry>(
     sides: &[Side],
     first: &[u64],
     second: &[u64],
-) -> Result<Groups<E>, Memory>
+) -> Result<Groups<E>, AllocError>
     requires sides { length sides.now ≡ length entries.items }
     requires first { length first.now ≡ length entries.items }
     requires second { length second.now ≡ length entries.items }
@@ -106,7 +106,7 @@ fn split_by<E: Entry>(
     entries: Vec<E>,
     policy: Policy,
     least: usize,
-) -> Result<Halves<E>, Memory>
+) -> Result<Halves<E>, AllocError>
     requires two { 2 ≤ size matrix.now }
     requires long { length entries.items ≡ size matrix.now }
     ensures halves { IfOk result (λ h. IsSplitBy E.ball E.with_parent matrix.now policy.promote policy.split least entries.items h) }
@@ -146,7 +146,7 @@ pub fn split<R: Ruler, E: Entry>(
     entries: Vec<E>,
     policy: Policy,
     least: usize,
-) -> Result<Halves<E>, Memory>
+) -> Result<Halves<E>, AllocError>
     requires some { 1 ≤ least }
     requires room { 2 * least ≤ length entries.items }
     requires radii { AllByRecursion (λ e. (E.ball e).1 ≤ bound) entries.items }

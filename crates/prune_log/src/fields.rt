@@ -6,7 +6,7 @@ ghost use Rattle.prune_log.specs.Reading.{Gives, byte_at, number_at, front_at};
 
 use crate::fault::LogFault;
 use byteorder::{BigEndian, ByteOrder};
-use metric_laws::Memory;
+use std::alloc::AllocError;
 
 /// Reads a byte, and returns the bytes behind it too.
 pub fn byte_at(bytes: &[u8]) -> Result<(u8, &[u8]), LogFault>
@@ -50,7 +50,7 @@ pub fn front_at(bytes: &[u8], count: u64) -> Result<(&[u8], &[u8]), LogFault>
 }
 
 /// Appends a number of four bytes.
-pub fn put_u32(out: &mut Vec<u8>, n: u32) -> Result<(), Memory>
+pub fn put_u32(out: &mut Vec<u8>, n: u32) -> Result<(), AllocError>
     ensures ok { OnOk result (out.new.items ≡ out.old.items ++ big_bytes 4 n) }
     ensures err { OnErr result (out.new.items ≡ out.old.items) }
 {
@@ -60,7 +60,7 @@ pub fn put_u32(out: &mut Vec<u8>, n: u32) -> Result<(), Memory>
 }
 
 /// Appends a number of eight bytes.
-pub fn put_u64(out: &mut Vec<u8>, n: u64) -> Result<(), Memory>
+pub fn put_u64(out: &mut Vec<u8>, n: u64) -> Result<(), AllocError>
     ensures ok { OnOk result (out.new.items ≡ out.old.items ++ big_bytes 8 n) }
     ensures err { OnErr result (out.new.items ≡ out.old.items) }
 {

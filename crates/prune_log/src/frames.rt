@@ -13,8 +13,7 @@ use crate::fields::{put_u64, u64_at};
 use crate::join_log::whole_join_log;
 use crate::query_log::whole_log;
 use log_model::{JoinLog, Log};
-use metric_laws::Memory;
-use std::alloc::Global;
+use std::alloc::{AllocError, Global};
 
 /// A log that is read from frames.
 pub trait Framed: Drop {
@@ -73,7 +72,7 @@ fn frames<L: Framed>(alloc: Global, bytes: &[u8]) -> Result<Vec<L>, LogFault>
 }
 
 /// Appends a frame of `bytes`: their length, and the bytes.
-pub fn frame(bytes: &[u8], out: &mut Vec<u8>) -> Result<(), Memory>
+pub fn frame(bytes: &[u8], out: &mut Vec<u8>) -> Result<(), AllocError>
     ensures ok { OnOk result (out.new.items ≡ out.old.items ++ frame_bytes bytes.now) }
     ensures err { OnErr result (out.new.items ≡ out.old.items) }
 {

@@ -11,8 +11,7 @@ use crate::fields::{byte_at, put_u64, u64_at};
 use crate::pieces::{long_list_at, put_long_list};
 use crate::query_log::{opening_at, put_opening, put_tree, tree_at};
 use log_model::JoinLog;
-use metric_laws::Memory;
-use std::alloc::Global;
+use std::alloc::{AllocError, Global};
 
 /// The kind of a join's log.
 const JOIN: u8 = 3;
@@ -91,7 +90,7 @@ pub fn decode_join_log(alloc: Global, bytes: &[u8]) -> Result<JoinLog, LogFault>
 }
 
 // Appends the letters, the version and the kind.
-fn put_join_opening(out: &mut Vec<u8>) -> Result<(), Memory>
+fn put_join_opening(out: &mut Vec<u8>) -> Result<(), AllocError>
     ensures { OnOk result (out.new.items ≡ out.old.items ++ join_opening_bytes) }
 {
     put_opening(out)?;
@@ -100,7 +99,7 @@ fn put_join_opening(out: &mut Vec<u8>) -> Result<(), Memory>
 }
 
 /// Returns the one spelling of a join's log.
-pub fn encode_join_log(alloc: Global, log: &JoinLog) -> Result<Vec<u8>, Memory>
+pub fn encode_join_log(alloc: Global, log: &JoinLog) -> Result<Vec<u8>, AllocError>
     requires { IsValidJoinLog log.now }
     ensures { IfOk result (λ bytes. bytes.items ≡ join_log_bytes log.now) }
 {

@@ -9,9 +9,9 @@ ghost use Rattle.prune_log.specs.Reading.{Gives, number_at, next_at, many, alway
 use crate::fault::LogFault;
 use crate::fields::{byte_at, put_u32, put_u64, u32_at, u64_at};
 use log_model::{JoinRecord, Mark, Record};
-use metric_laws::{Listed, Memory};
+use metric_laws::Listed;
 use scan_model::{Hit, Pair};
-use std::alloc::Global;
+use std::alloc::{AllocError, Global};
 
 /// The greatest number of a node's entries.
 const ENTRIES: u8 = 32;
@@ -31,7 +31,7 @@ pub trait Piece: Drop {
     ghost follows: { Self → Self → Bool };
 
     /// Appends the piece.
-    fn put(&self, out: &mut Vec<u8>) -> Result<(), Memory>
+    fn put(&self, out: &mut Vec<u8>) -> Result<(), AllocError>
         requires { can_put self.now }
         ensures { OnOk result (out.new.items ≡ out.old.items ++ spelled self.now) };
 
@@ -53,7 +53,7 @@ impl Piece for u32 {
 
     ghost follows = { always };
 
-    fn put(&self, out: &mut Vec<u8>) -> Result<(), Memory> {
+    fn put(&self, out: &mut Vec<u8>) -> Result<(), AllocError> {
         put_u32(out, *self)
     }
 
@@ -75,7 +75,7 @@ impl Piece for Hit {
 
     ghost follows = { hit_follows };
 
-    fn put(&self, out: &mut Vec<u8>) -> Result<(), Memory> {
+    fn put(&self, out: &mut Vec<u8>) -> Result<(), AllocError> {
         put_u32(out, self.id)?;
         put_u64(out, self.dist)
     }
@@ -112,7 +112,7 @@ impl Piece for Mark {
 
     ghost follows = { always };
 
-    fn put(&self, out: &mut Vec<u8>) -> Result<(), Memory> {
+    fn put(&self, out: &mut Vec<u8>) -> Result<(), AllocError> {
         out.push(mark_byte(*self))?;
         Ok(())
     }
@@ -142,7 +142,7 @@ impl Piece for Pair {
 
     ghost follows = { pair_follows };
 
-    fn put(&self, out: &mut Vec<u8>) -> Result<(), Memory> {
+    fn put(&self, out: &mut Vec<u8>) -> Result<(), AllocError> {
         put_u32(out, self.left)?;
         put_u32(out, self.right)?;
         put_u64(out, self.dist)
@@ -189,7 +189,7 @@ fn marks_in_bytes(marks: &[Mark]) -> [u8; ENTRIES as usize]
 }
 
 // Appends the marks of a node, all at once, since they are most of a log.
-fn put_marks(out: &mut Vec<u8>, marks: &[Mark]) -> Result<(), Memory>
+fn put_marks(out: &mut Vec<u8>, marks: &[Mark]) -> Result<(), AllocError>
     requires { length marks.now ≤ 32 }
     ensures { OnOk result (out.new.items ≡ out.old.items ++ listed 1 mark_bytes marks.now) }
 {
@@ -208,7 +208,7 @@ impl Piece for Record {
 
     ghost follows = { always };
 
-    fn put(&self, out: &mut Vec<u8>) -> Result<(), Memory> {
+    fn put(&self, out: &mut Vec<u8>) -> Result<(), AllocError> {
         put_u32(out, self.page)?;
         put_marks(out, self.marks.as_slice())
     }
@@ -247,7 +247,7 @@ impl Piece for JoinRecord {
 
     ghost follows = { always };
 
-    fn put(&self, out: &mut Vec<u8>) -> Result<(), Memory> {
+    fn put(&self, out: &mut Vec<u8>) -> Result<(), AllocError> {
         out.push(u8::from(self.right))?;
         put_u32(out, self.page)?;
         put_marks(out, self.marks.as_slice())
@@ -303,7 +303,7 @@ pub fn read_all<P: Piece>(
 }
 
 // Appends pieces.
-pub fn put_all<P: Piece>(out: &mut Vec<u8>, pieces: &[P]) -> Result<(), Memory>
+pub fn put_all<P: Piece>(out: &mut Vec<u8>, pieces: &[P]) -> Result<(), AllocError>
     requires { AllByRecursion P.can_put pieces.now }
     ensures { OnOk result (out.new.items ≡ out.old.items ++ flat_map P.spelled pieces.now) }
 {
@@ -334,7 +334,7 @@ pub fn long_list_at<P: Piece>(alloc: Global, bytes: &[u8]) -> Result<(Listed<P>,
 }
 
 // Appends the number of pieces in four bytes, and the pieces.
-pub fn put_short_list<P: Piece>(out: &mut Vec<u8>, pieces: &[P]) -> Result<(), Memory>
+pub fn put_short_list<P: Piece>(out: &mut Vec<u8>, pieces: &[P]) -> Result<(), AllocError>
     requires few { length pieces.now < 2 ^ 32 }
     requires each { AllByRecursion P.can_put pieces.now }
     ensures { OnOk result (out.new.items ≡ out.old.items ++ listed 4 P.spelled pieces.now) }
@@ -344,7 +344,7 @@ pub fn put_short_list<P: Piece>(out: &mut Vec<u8>, pieces: &[P]) -> Result<(), M
 }
 
 // Appends the number of pieces in eight bytes, and the pieces.
-pub fn put_long_list<P: Piece>(out: &mut Vec<u8>, pieces: &[P]) -> Result<(), Memory>
+pub fn put_long_list<P: Piece>(out: &mut Vec<u8>, pieces: &[P]) -> Result<(), AllocError>
     requires { AllByRecursion P.can_put pieces.now }
     ensures { OnOk result (out.new.items ≡ out.old.items ++ listed 8 P.spelled pieces.now) }
 {

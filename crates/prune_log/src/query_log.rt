@@ -11,9 +11,9 @@ use crate::fault::LogFault;
 use crate::fields::{byte_at, put_u32, put_u64, u32_at, u64_at};
 use crate::pieces::{put_all, put_short_list, read_all, short_list_at};
 use log_model::Log;
-use metric_laws::{Memory, Point};
+use metric_laws::Point;
 use scan_model::Query;
-use std::alloc::Global;
+use std::alloc::{AllocError, Global};
 
 /// The letters `MTLG` as a number, the first letter highest.
 const MAGIC: u32 = 0x4d54_4c47;
@@ -174,7 +174,7 @@ pub fn decode_log(alloc: Global, bytes: &[u8]) -> Result<Log, LogFault>
 }
 
 // Appends the letters and the version.
-pub fn put_opening(out: &mut Vec<u8>) -> Result<(), Memory>
+pub fn put_opening(out: &mut Vec<u8>) -> Result<(), AllocError>
     ensures { OnOk result (out.new.items ≡ out.old.items ++ opening_bytes) }
 {
     put_u32(out, MAGIC)?;
@@ -183,7 +183,7 @@ pub fn put_opening(out: &mut Vec<u8>) -> Result<(), Memory>
 }
 
 // Appends the generation of a tree and the page of its root.
-pub fn put_tree(out: &mut Vec<u8>, generation: u64, root: u32) -> Result<(), Memory>
+pub fn put_tree(out: &mut Vec<u8>, generation: u64, root: u32) -> Result<(), AllocError>
     ensures { OnOk result (out.new.items ≡ out.old.items ++ tree_bytes generation root) }
 {
     put_u64(out, generation)?;
@@ -191,7 +191,7 @@ pub fn put_tree(out: &mut Vec<u8>, generation: u64, root: u32) -> Result<(), Mem
 }
 
 // Appends the kind of a query.
-fn put_kind(out: &mut Vec<u8>, query: &Query) -> Result<(), Memory>
+fn put_kind(out: &mut Vec<u8>, query: &Query) -> Result<(), AllocError>
     ensures { OnOk result (out.new.items ≡ out.old.items ++ kind_bytes query.now) }
 {
     let kind = match query {
@@ -203,7 +203,7 @@ fn put_kind(out: &mut Vec<u8>, query: &Query) -> Result<(), Memory>
 }
 
 // Appends a number and a point.
-fn put_asked(out: &mut Vec<u8>, amount: u64, point: &[u32]) -> Result<(), Memory>
+fn put_asked(out: &mut Vec<u8>, amount: u64, point: &[u32]) -> Result<(), AllocError>
     requires { length point.now ≤ 64 }
     ensures { OnOk result (out.new.items ≡ out.old.items ++ (big_bytes 8 amount ++ listed 1 coordinate_bytes point.now)) }
 {
@@ -213,7 +213,7 @@ fn put_asked(out: &mut Vec<u8>, amount: u64, point: &[u32]) -> Result<(), Memory
 }
 
 // Appends the radius or k of a query, and its point.
-fn put_query(out: &mut Vec<u8>, query: &Query) -> Result<(), Memory>
+fn put_query(out: &mut Vec<u8>, query: &Query) -> Result<(), AllocError>
     requires { IsValidQuery query.now }
     ensures { OnOk result (out.new.items ≡ out.old.items ++ query_bytes query.now) }
 {
@@ -224,7 +224,7 @@ fn put_query(out: &mut Vec<u8>, query: &Query) -> Result<(), Memory>
 }
 
 /// Returns the one spelling of a log.
-pub fn encode_log(alloc: Global, log: &Log) -> Result<Vec<u8>, Memory>
+pub fn encode_log(alloc: Global, log: &Log) -> Result<Vec<u8>, AllocError>
     requires { IsValidLog log.now }
     ensures { IfOk result (λ bytes. bytes.items ≡ log_bytes log.now) }
 {

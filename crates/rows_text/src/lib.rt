@@ -16,10 +16,8 @@ mod state;
 mod text;
 
 pub use command::Command;
+pub use number::number;
 pub use refusal::Refusal;
 pub use reply::Reply;
 pub use script::read_script;
 pub use text::{query_text, reply_text};
-
-/// The error when memory runs out.
-pub type Memory = std::alloc::AllocError;

@@ -3,7 +3,7 @@ ghost use Rattle.std.specs.Prelude.{◌≡◌};
 use crate::field::field;
 use crate::number::number;
 use crate::points::coordinates_from;
-use crate::{Command, Memory, Refusal};
+use crate::{Command, Refusal};
 use csv::ByteRecord;
 use metric_laws::{Listed, Rows};
 use std::alloc::{AllocError, Global};
@@ -52,7 +52,7 @@ impl OpenLoad {
     }
 
     // Adds the point of `row`, if it is one. Returns whether it is.
-    fn push_point(&mut self, alloc: Global, row: &ByteRecord) -> Result<bool, Memory>
+    fn push_point(&mut self, alloc: Global, row: &ByteRecord) -> Result<bool, AllocError>
         ensures adds { IfOk result (AddsPoint (row_of self.old.dimension (fields_in row.now)) self.old.tags.items self.old.rows self.new) }
         ensures same { IsSameLoad self.old self.new }
     {
@@ -67,7 +67,7 @@ impl OpenLoad {
     }
 
     // Adds the tag and the point of `row`, if it has both. Returns whether it does.
-    fn push_tagged(&mut self, alloc: Global, row: &ByteRecord) -> Result<bool, Memory>
+    fn push_tagged(&mut self, alloc: Global, row: &ByteRecord) -> Result<bool, AllocError>
         ensures adds { IfOk result (AddsTagged (tag_row_of self.old.dimension
             (fields_in row.now)) self.old.tags.items self.old.rows self.new) }
         ensures same { IsSameLoad self.old self.new }
@@ -87,7 +87,7 @@ impl OpenLoad {
     }
 
     // Adds the row of `row`, if it is one. Returns whether it is.
-    fn push(&mut self, alloc: Global, row: &ByteRecord) -> Result<bool, Memory>
+    fn push(&mut self, alloc: Global, row: &ByteRecord) -> Result<bool, AllocError>
         ensures adds { IfOk result (AddsRow self.old self.new (fields_in row.now)) }
         ensures same { IsSameLoad self.old self.new }
     {
@@ -99,7 +99,7 @@ impl OpenLoad {
     }
 
     /// Reads one record.
-    pub fn take(&mut self, alloc: Global, row: &ByteRecord) -> Result<(), Memory>
+    pub fn take(&mut self, alloc: Global, row: &ByteRecord) -> Result<(), AllocError>
         requires { 0 < self.old.left }
         ensures { OnOk result (TakesRecord self.old self.new (fields_in row.now)) }
     {

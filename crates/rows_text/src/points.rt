@@ -2,19 +2,18 @@ ghost use Rattle.std.specs.Prelude.{◌≡◌, drop, option_map, IfOk};
 ghost use Rattle.rows_text.specs.Numbers.{coordinates};
 ghost use Rattle.rows_text.specs.Records.{fields_in};
 
-use crate::Memory;
 use crate::field::field;
 use crate::number::coordinate;
 use csv::ByteRecord;
 use metric_laws::Point;
-use std::alloc::Global;
+use std::alloc::{AllocError, Global};
 
 /// Reads the coordinates that the fields from place `start` on spell.
 pub fn coordinates_from(
     alloc: Global,
     row: &ByteRecord,
     start: usize,
-) -> Result<Option<Vec<u32>>, Memory>
+) -> Result<Option<Vec<u32>>, AllocError>
     ensures { IfOk result (λ found. option_map (λ v. v.items) found ≡ coordinates (drop start (fields_in row.now))) }
 {
     let mut found = Vec::with_capacity(alloc, row.len().saturating_sub(start))?;
@@ -28,7 +27,7 @@ pub fn coordinates_from(
 }
 
 /// Reads the point that the fields from place `start` on spell.
-pub fn point_from(alloc: Global, row: &ByteRecord, start: usize) -> Result<Option<Point>, Memory>
+pub fn point_from(alloc: Global, row: &ByteRecord, start: usize) -> Result<Option<Point>, AllocError>
     ensures { IfOk result (λ p. p ≡ coordinates (drop start (fields_in row.now))) }
 {
     let Some(found) = coordinates_from(alloc, row, start)? else {

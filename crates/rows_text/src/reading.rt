@@ -8,9 +8,9 @@ use crate::load::OpenLoad;
 use crate::number::number;
 use crate::single::read_single;
 use crate::state::{Reading, Start};
-use crate::{Command, Memory, Refusal};
+use crate::{Command, Refusal};
 use csv::ByteRecord;
-use std::alloc::Global;
+use std::alloc::{AllocError, Global};
 
 // Returns what `load,n` or `tload,n` starts.
 fn read_load(alloc: Global, dimension: usize, tagged: bool, row: &ByteRecord) -> Start
@@ -30,7 +30,7 @@ fn read_load(alloc: Global, dimension: usize, tagged: bool, row: &ByteRecord) ->
 }
 
 // Returns what a record starts.
-fn read_start(alloc: Global, dimension: usize, row: &ByteRecord) -> Result<Start, Memory>
+fn read_start(alloc: Global, dimension: usize, row: &ByteRecord) -> Result<Start, AllocError>
     requires some { 1 ≤ dimension }
     requires few { dimension ≤ 64 }
     ensures { IfOk result (λ start. (after : List Fields)
@@ -61,7 +61,7 @@ impl Reading {
     }
 
     // Reads a record where no load is open.
-    fn begin(&mut self, alloc: Global, row: &ByteRecord) -> Result<(), Memory>
+    fn begin(&mut self, alloc: Global, row: &ByteRecord) -> Result<(), AllocError>
         requires { self.old.load ≡ None }
         ensures { OnOk result (Reads self.old self.new (fields_in row.now)) }
     {
@@ -73,7 +73,7 @@ impl Reading {
     }
 
     // Reads a record of a load.
-    fn go_on(&mut self, alloc: Global, load: OpenLoad, row: &ByteRecord) -> Result<(), Memory>
+    fn go_on(&mut self, alloc: Global, load: OpenLoad, row: &ByteRecord) -> Result<(), AllocError>
         requires { 0 < load.left }
         ensures { OnOk result (GoesOn load self.old self.new (fields_in row.now)) }
     {
@@ -84,7 +84,7 @@ impl Reading {
     }
 
     /// Reads a record.
-    pub fn take(&mut self, alloc: Global, row: &ByteRecord) -> Result<(), Memory>
+    pub fn take(&mut self, alloc: Global, row: &ByteRecord) -> Result<(), AllocError>
         ensures { OnOk result (Reads self.old self.new (fields_in row.now)) }
     {
         if let Some(load) = self.load.take() {
@@ -97,7 +97,7 @@ impl Reading {
     }
 
     /// Returns the commands, where no further record follows.
-    pub fn finish(self) -> Result<Vec<Command>, Memory>
+    pub fn finish(self) -> Result<Vec<Command>, AllocError>
         ensures { IfOk result (λ commands. commands.items ≡ commands_with self []) }
     {
         let Reading { commands, load, .. } = self;

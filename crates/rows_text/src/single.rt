@@ -5,11 +5,11 @@ ghost use Rattle.rows_text.specs.Script.{close_of, count_of, cursor_of, insert_o
 use crate::field::field;
 use crate::number::{coordinate, number};
 use crate::points::point_from;
-use crate::{Command, Memory, Refusal};
+use crate::{Command, Refusal};
 use csv::ByteRecord;
-use std::alloc::Global;
+use std::alloc::{AllocError, Global};
 
-fn read_insert(alloc: Global, dimension: usize, row: &ByteRecord) -> Result<Command, Memory>
+fn read_insert(alloc: Global, dimension: usize, row: &ByteRecord) -> Result<Command, AllocError>
     requires some { 1 ≤ dimension }
     requires few { dimension ≤ 64 }
     ensures { IfOk result (λ command. command ≡ insert_of dimension (drop 1 (fields_in row.now))) }
@@ -23,7 +23,7 @@ fn read_insert(alloc: Global, dimension: usize, row: &ByteRecord) -> Result<Comm
     })
 }
 
-fn read_range(alloc: Global, dimension: usize, row: &ByteRecord) -> Result<Command, Memory>
+fn read_range(alloc: Global, dimension: usize, row: &ByteRecord) -> Result<Command, AllocError>
     requires { dimension ≤ 64 }
     ensures { IfOk result (λ command. command ≡ range_of dimension (drop 1 (fields_in row.now))) }
 {
@@ -39,7 +39,7 @@ fn read_range(alloc: Global, dimension: usize, row: &ByteRecord) -> Result<Comma
     })
 }
 
-fn read_nearest(alloc: Global, dimension: usize, row: &ByteRecord) -> Result<Command, Memory>
+fn read_nearest(alloc: Global, dimension: usize, row: &ByteRecord) -> Result<Command, AllocError>
     requires { dimension ≤ 64 }
     ensures { IfOk result (λ command. command ≡ nearest_of dimension (drop 1 (fields_in row.now))) }
 {
@@ -56,7 +56,7 @@ fn read_nearest(alloc: Global, dimension: usize, row: &ByteRecord) -> Result<Com
     })
 }
 
-fn read_tag_insert(alloc: Global, dimension: usize, row: &ByteRecord) -> Result<Command, Memory>
+fn read_tag_insert(alloc: Global, dimension: usize, row: &ByteRecord) -> Result<Command, AllocError>
     requires { dimension ≤ 64 }
     ensures { IfOk result (λ command. command ≡ tag_insert_of dimension (drop 1 (fields_in row.now))) }
 {
@@ -72,7 +72,7 @@ fn read_tag_insert(alloc: Global, dimension: usize, row: &ByteRecord) -> Result<
     })
 }
 
-fn read_cursor(alloc: Global, dimension: usize, row: &ByteRecord) -> Result<Command, Memory>
+fn read_cursor(alloc: Global, dimension: usize, row: &ByteRecord) -> Result<Command, AllocError>
     requires some { 1 ≤ dimension }
     requires few { dimension ≤ 64 }
     ensures { IfOk result (λ command. command ≡ cursor_of dimension (drop 1 (fields_in row.now))) }
@@ -121,7 +121,7 @@ fn read_count(row: &ByteRecord) -> Command
 }
 
 /// Reads the command of a single record.
-pub fn read_single(alloc: Global, dimension: usize, row: &ByteRecord) -> Result<Command, Memory>
+pub fn read_single(alloc: Global, dimension: usize, row: &ByteRecord) -> Result<Command, AllocError>
     requires some { 1 ≤ dimension }
     requires few { dimension ≤ 64 }
     ensures { IfOk result (λ command. command ≡ single_of dimension (fields_in row.now)) }

@@ -2,11 +2,12 @@ ghost use Rattle.std.specs.Prelude.{◌≡◌, ◌++◌, true, decimal, flat_map
 ghost use Rattle.rows_text.specs.Meaning.{TagsAre};
 ghost use Rattle.rows_text.specs.Texts.{KeepsFront, counted, hit_line, hit_lines, tagged_line, tagged_lines, pair_line, reason, text, coordinate_text, coordinates_text, query_line};
 
-use crate::{Memory, Refusal, Reply};
+use crate::{Refusal, Reply};
 use itoa::Buffer;
 use scan_model::{Hit, Pair, Query};
+use std::alloc::AllocError;
 
-fn push_number(n: u64, out: &mut Vec<u8>) -> Result<(), Memory>
+fn push_number(n: u64, out: &mut Vec<u8>) -> Result<(), AllocError>
     ensures ok { OnOk result (out.new.items ≡ out.old.items ++ decimal n) }
     ensures err { KeepsFront out.old.items out.new.items }
 {
@@ -15,7 +16,7 @@ fn push_number(n: u64, out: &mut Vec<u8>) -> Result<(), Memory>
 }
 
 // Appends `WORD N`, where `word` ends with its blank.
-fn push_counted(word: &[u8], n: u64, out: &mut Vec<u8>) -> Result<(), Memory>
+fn push_counted(word: &[u8], n: u64, out: &mut Vec<u8>) -> Result<(), AllocError>
     ensures ok { OnOk result (out.new.items ≡ out.old.items ++ counted word.now n) }
     ensures err { KeepsFront out.old.items out.new.items }
 {
@@ -24,7 +25,7 @@ fn push_counted(word: &[u8], n: u64, out: &mut Vec<u8>) -> Result<(), Memory>
     out.extend_from_slice(b"\n")
 }
 
-fn push_hit(hit: &Hit, out: &mut Vec<u8>) -> Result<(), Memory>
+fn push_hit(hit: &Hit, out: &mut Vec<u8>) -> Result<(), AllocError>
     ensures ok { OnOk result (out.new.items ≡ out.old.items ++ hit_line hit.now) }
     ensures err { KeepsFront out.old.items out.new.items }
 {
@@ -33,7 +34,7 @@ fn push_hit(hit: &Hit, out: &mut Vec<u8>) -> Result<(), Memory>
 }
 
 #[tactic(auto, using(crate::proofs::Kept::keeps_longer))]
-fn push_hits(hits: &[Hit], out: &mut Vec<u8>) -> Result<(), Memory>
+fn push_hits(hits: &[Hit], out: &mut Vec<u8>) -> Result<(), AllocError>
     ensures ok { OnOk result (out.new.items ≡ out.old.items ++ flat_map hit_line hits.now) }
     ensures err { KeepsFront out.old.items out.new.items }
 {
@@ -43,7 +44,7 @@ fn push_hits(hits: &[Hit], out: &mut Vec<u8>) -> Result<(), Memory>
     Ok(())
 }
 
-fn push_tagged_hit(hit: &Hit, tag: u64, out: &mut Vec<u8>) -> Result<(), Memory>
+fn push_tagged_hit(hit: &Hit, tag: u64, out: &mut Vec<u8>) -> Result<(), AllocError>
     ensures ok { OnOk result (out.new.items ≡ out.old.items ++ tagged_line hit.now tag) }
     ensures err { KeepsFront out.old.items out.new.items }
 {
@@ -54,7 +55,7 @@ fn push_tagged_hit(hit: &Hit, tag: u64, out: &mut Vec<u8>) -> Result<(), Memory>
 }
 
 #[tactic(auto, using(crate::proofs::Kept::keeps_within, crate::proofs::Kept::tagged_step))]
-fn push_tagged(hits: &[Hit], tags: &[u64], out: &mut Vec<u8>) -> Result<(), Memory>
+fn push_tagged(hits: &[Hit], tags: &[u64], out: &mut Vec<u8>) -> Result<(), AllocError>
     requires { length tags.now ≡ length hits.now }
     ensures ok { OnOk result (out.new.items ≡ out.old.items ++ tagged_lines hits.now tags.now) }
     ensures err { KeepsFront out.old.items out.new.items }
@@ -72,7 +73,7 @@ fn push_hit_lines(
     tags: &[u64],
     show: bool,
     out: &mut Vec<u8>,
-) -> Result<(), Memory>
+) -> Result<(), AllocError>
     requires { show ≡ true → length tags.now ≡ length hits.now }
     ensures ok { OnOk result (out.new.items ≡ out.old.items ++ counted word.now (length hits.now) ++ hit_lines show hits.now tags.now) }
     ensures err { KeepsFront out.old.items out.new.items }
@@ -85,7 +86,7 @@ fn push_hit_lines(
     }
 }
 
-fn push_pair(pair: &Pair, out: &mut Vec<u8>) -> Result<(), Memory>
+fn push_pair(pair: &Pair, out: &mut Vec<u8>) -> Result<(), AllocError>
     ensures ok { OnOk result (out.new.items ≡ out.old.items ++ pair_line pair.now) }
     ensures err { KeepsFront out.old.items out.new.items }
 {
@@ -96,7 +97,7 @@ fn push_pair(pair: &Pair, out: &mut Vec<u8>) -> Result<(), Memory>
 }
 
 #[tactic(auto, using(crate::proofs::Kept::keeps_longer))]
-fn push_pairs(pairs: &[Pair], out: &mut Vec<u8>) -> Result<(), Memory>
+fn push_pairs(pairs: &[Pair], out: &mut Vec<u8>) -> Result<(), AllocError>
     ensures ok { OnOk result (out.new.items ≡ out.old.items ++ flat_map pair_line pairs.now) }
     ensures err { KeepsFront out.old.items out.new.items }
 {
@@ -106,7 +107,7 @@ fn push_pairs(pairs: &[Pair], out: &mut Vec<u8>) -> Result<(), Memory>
     Ok(())
 }
 
-fn push_reason(why: Refusal, out: &mut Vec<u8>) -> Result<(), Memory>
+fn push_reason(why: Refusal, out: &mut Vec<u8>) -> Result<(), AllocError>
     ensures ok { OnOk result (out.new.items ≡ out.old.items ++ reason why) }
     ensures err { KeepsFront out.old.items out.new.items }
 {
@@ -132,7 +133,7 @@ fn push_reason(why: Refusal, out: &mut Vec<u8>) -> Result<(), Memory>
     out.extend_from_slice(word)
 }
 
-fn push_refused(why: Refusal, out: &mut Vec<u8>) -> Result<(), Memory>
+fn push_refused(why: Refusal, out: &mut Vec<u8>) -> Result<(), AllocError>
     ensures ok { OnOk result (out.new.items ≡ out.old.items ++ text true (Reply.Refused why)) }
     ensures err { KeepsFront out.old.items out.new.items }
 {
@@ -141,7 +142,7 @@ fn push_refused(why: Refusal, out: &mut Vec<u8>) -> Result<(), Memory>
     out.extend_from_slice(b"\n")
 }
 
-fn push_reply(reply: &Reply, show: bool, out: &mut Vec<u8>) -> Result<(), Memory>
+fn push_reply(reply: &Reply, show: bool, out: &mut Vec<u8>) -> Result<(), AllocError>
     requires { show ≡ true → TagsAre reply.now }
     ensures ok { OnOk result (out.new.items ≡ out.old.items ++ text show reply.now) }
     ensures err { KeepsFront out.old.items out.new.items }
@@ -177,7 +178,7 @@ fn push_reply(reply: &Reply, show: bool, out: &mut Vec<u8>) -> Result<(), Memory
 
 /// Appends the lines of a reply: a hit is `ID DIST`, or `ID TAG DIST` where tags are shown. When memory runs out, `out` is
 /// as before.
-pub fn reply_text(reply: &Reply, show: bool, out: &mut Vec<u8>) -> Result<(), Memory>
+pub fn reply_text(reply: &Reply, show: bool, out: &mut Vec<u8>) -> Result<(), AllocError>
     requires { show ≡ true → TagsAre reply.now }
     ensures ok { OnOk result (out.new.items ≡ out.old.items ++ text show reply.now) }
     ensures err { OnErr result (out.new.items ≡ out.old.items) }
@@ -190,7 +191,7 @@ pub fn reply_text(reply: &Reply, show: bool, out: &mut Vec<u8>) -> Result<(), Me
     result
 }
 
-fn push_coordinate(x: u32, out: &mut Vec<u8>) -> Result<(), Memory>
+fn push_coordinate(x: u32, out: &mut Vec<u8>) -> Result<(), AllocError>
     ensures ok { OnOk result (out.new.items ≡ out.old.items ++ coordinate_text x) }
     ensures err { KeepsFront out.old.items out.new.items }
 {
@@ -199,7 +200,7 @@ fn push_coordinate(x: u32, out: &mut Vec<u8>) -> Result<(), Memory>
 }
 
 #[tactic(auto, using(crate::proofs::Kept::keeps_longer))]
-fn push_coordinates(point: &[u32], out: &mut Vec<u8>) -> Result<(), Memory>
+fn push_coordinates(point: &[u32], out: &mut Vec<u8>) -> Result<(), AllocError>
     ensures ok { OnOk result (out.new.items ≡ out.old.items ++ coordinates_text point.now) }
     ensures err { KeepsFront out.old.items out.new.items }
 {
@@ -209,7 +210,7 @@ fn push_coordinates(point: &[u32], out: &mut Vec<u8>) -> Result<(), Memory>
     Ok(())
 }
 
-fn push_query(query: &Query, out: &mut Vec<u8>) -> Result<(), Memory>
+fn push_query(query: &Query, out: &mut Vec<u8>) -> Result<(), AllocError>
     ensures ok { OnOk result (out.new.items ≡ out.old.items ++ query_line query.now) }
     ensures err { KeepsFront out.old.items out.new.items }
 {
@@ -229,7 +230,7 @@ fn push_query(query: &Query, out: &mut Vec<u8>) -> Result<(), Memory>
 }
 
 /// Appends the line of a query, as a script has it. When memory runs out, `out` is as before.
-pub fn query_text(query: &Query, out: &mut Vec<u8>) -> Result<(), Memory>
+pub fn query_text(query: &Query, out: &mut Vec<u8>) -> Result<(), AllocError>
     ensures ok { OnOk result (out.new.items ≡ out.old.items ++ query_line query.now) }
     ensures err { OnErr result (out.new.items ≡ out.old.items) }
 {

@@ -1,9 +1,9 @@
 ghost use Rattle.std.specs.Prelude.{◌≡◌, ◌<◌, ◌^◌, ◌++◌, length, filter, IsTrue, IfOk, OnOk, All};
 ghost use Rattle.scan_model.specs.Join.{join_pairs, pairs_from, is_close};
 
-use crate::{Memory, Pair};
+use crate::Pair;
 use metric_laws::{Metric, Rows};
-use std::alloc::Global;
+use std::alloc::{AllocError, Global};
 
 // Adds the pairs of one left object with every right object within `r` of it.
 fn push_pairs<M: Metric>(
@@ -13,7 +13,7 @@ fn push_pairs<M: Metric>(
     rows: &Rows,
     r: u64,
     pairs: &mut Vec<Pair>,
-) -> Result<(), Memory>
+) -> Result<(), AllocError>
     requires { length rows.now.points < 2 ^ 32 }
     ensures { OnOk result (pairs.new.items ≡ pairs.old.items
         ++ filter (is_close r) (pairs_from (M.space m.now) left p.now 0 rows.now.points)) }
@@ -38,7 +38,7 @@ pub fn scan_join<M: Metric>(
     left: &Rows,
     right: &Rows,
     r: u64,
-) -> Result<Vec<Pair>, Memory>
+) -> Result<Vec<Pair>, AllocError>
     requires few_left { length left.now.points < 2 ^ 32 }
     requires few_right { length right.now.points < 2 ^ 32 }
     requires left_points { All (λ p. IsTrue ((M.space m.now).is_point p)) left.now.points }

@@ -11,6 +11,3 @@ pub use hit::{Hit, Pair};
 pub use join::scan_join;
 pub use query::Query;
 pub use scan::{scan_nearest, scan_range};
-
-/// The error when memory runs out.
-pub type Memory = std::alloc::AllocError;

@@ -3,9 +3,9 @@ ghost use Rattle.scan_model.specs.Hits.{hit_cmp};
 ghost use Rattle.scan_model.specs.Ordered.{ordered};
 ghost use Rattle.scan_model.specs.Scan.{range_hits, nearest_hits, hits_from, is_within};
 
-use crate::{Hit, Memory};
+use crate::Hit;
 use metric_laws::{BOUND, Metric, Rows};
-use std::alloc::Global;
+use std::alloc::{AllocError, Global};
 
 // Returns every object within `r` of `q`, by id.
 fn hits_within<M: Metric>(
@@ -14,7 +14,7 @@ fn hits_within<M: Metric>(
     rows: &Rows,
     q: &[u32],
     r: u64,
-) -> Result<Vec<Hit>, Memory>
+) -> Result<Vec<Hit>, AllocError>
     requires { length rows.now.points < 2 ^ 32 }
     ensures { IfOk result (λ hits. hits.items ≡ filter (is_within r) (hits_from (M.space m.now) q.now 0 rows.now.points)) }
 {
@@ -31,14 +31,14 @@ fn hits_within<M: Metric>(
     Ok(hits)
 }
 
-fn copy_of(alloc: Global, hits: &[Hit]) -> Result<Vec<Hit>, Memory>
+fn copy_of(alloc: Global, hits: &[Hit]) -> Result<Vec<Hit>, AllocError>
     ensures { IfOk result (λ copy. copy.items ≡ hits.now) }
 {
     hits.iter().copied().collect(alloc)
 }
 
 // Returns the first `k` hits by distance and id, in order. They are selected first, so that no others are sorted.
-fn first_in_order(alloc: Global, hits: &mut [Hit], k: usize) -> Result<Vec<Hit>, Memory>
+fn first_in_order(alloc: Global, hits: &mut [Hit], k: usize) -> Result<Vec<Hit>, AllocError>
     requires { k < length hits.old }
     ensures { IfOk result (λ first. first.items ≡ take k (ordered hit_cmp hits.old)) }
 {
@@ -54,7 +54,7 @@ pub fn scan_range<M: Metric>(
     rows: &Rows,
     q: &[u32],
     r: u64,
-) -> Result<Vec<Hit>, Memory>
+) -> Result<Vec<Hit>, AllocError>
     requires few { length rows.now.points < 2 ^ 32 }
     requires points { All (λ p. IsTrue ((M.space m.now).is_point p)) rows.now.points }
     requires query { IsTrue ((M.space m.now).is_point q.now) }
@@ -72,7 +72,7 @@ pub fn scan_nearest<M: Metric>(
     rows: &Rows,
     q: &[u32],
     k: u64,
-) -> Result<Vec<Hit>, Memory>
+) -> Result<Vec<Hit>, AllocError>
     requires few { length rows.now.points < 2 ^ 32 }
     requires points { All (λ p. IsTrue ((M.space m.now).is_point p)) rows.now.points }
     requires query { IsTrue ((M.space m.now).is_point q.now) }

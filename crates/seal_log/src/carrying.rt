@@ -11,16 +11,16 @@ ghost use Rattle.seal_log.specs.Spelling.{opening_bytes, digest_bytes, page_byte
 ghost use Rattle.seal_log.specs.Carrying.{AreNeeded, Carries, page_with_path, pages_bytes};
 
 use crate::parts::{MAGIC, VERSION};
-use crate::{Memory, SealFault, Tree};
+use crate::{SealFault, Tree};
 use disk_model::Disk;
 use log_model::Log;
 use page_store::read_page;
 use prune_log::fields::put_u32;
 use prune_log::{encode_log, frame};
-use std::alloc::Global;
+use std::alloc::{AllocError, Global};
 
 // Returns pages 0, 1 and 2 and the pages that the records name, in ascending order, each once.
-fn needed_pages(alloc: Global, log: &Log) -> Result<Vec<u32>, Memory>
+fn needed_pages(alloc: Global, log: &Log) -> Result<Vec<u32>, AllocError>
     ensures needed { IfOk result (λ pages. AreNeeded log.now pages.items) }
     ensures few { IfOk result (λ pages. vec_len pages ≤ 3 + length log.now.records) }
 {
@@ -34,7 +34,7 @@ fn needed_pages(alloc: Global, log: &Log) -> Result<Vec<u32>, Memory>
 }
 
 // Appends the path of page `page`.
-fn put_path(alloc: Global, tree: &Tree, page: u32, out: &mut Vec<u8>) -> Result<(), Memory>
+fn put_path(alloc: Global, tree: &Tree, page: u32, out: &mut Vec<u8>) -> Result<(), AllocError>
     requires { length tree.now ≤ 262144 }
     ensures { OnOk result (out.new.items ≡ out.old.items ++ listed 1 digest_bytes (path_in (levels_over tree.now) page)) }
 {
@@ -99,7 +99,7 @@ fn put_pages<D: Disk>(
 }
 
 // Appends what stands before the carried pages: the letters, the version, the number of the file's pages and of the carried pages.
-fn put_front(out: &mut Vec<u8>, pages: u32, count: u32) -> Result<(), Memory>
+fn put_front(out: &mut Vec<u8>, pages: u32, count: u32) -> Result<(), AllocError>
     ensures { OnOk result (out.new.items ≡ out.old.items ++ (opening_bytes ++ (big_bytes 4 pages ++ big_bytes 4 count))) }
 {
     put_u32(out, MAGIC)?;

@@ -22,6 +22,3 @@ pub use parts::{CarriedPage, Parts};
 pub use sealing::seal;
 pub use tree::Tree;
 pub use verifying::{Proved, verify_carried};
-
-/// The error when memory runs out.
-pub type Memory = std::alloc::AllocError;

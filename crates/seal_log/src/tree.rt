@@ -2,10 +2,9 @@ ghost use Rattle.std.specs.Prelude.{◌≡◌, ◌≤◌, ◌<◌, ◌^◌, ◌�
 ghost use Rattle.seal_log.specs.Digests.{paired, levels_over, root_over};
 ghost use Rattle.seal_log.specs.Paths.{partner_of, path_in};
 
-use crate::Memory;
 use crate::digests::{pair_digest, root_digest};
 use metric_laws::Listed;
-use std::alloc::Global;
+use std::alloc::{AllocError, Global};
 use std::marker::Model;
 
 /// The digests of a file's pages, and those of all levels above them. Contracts see the digests of the pages.
@@ -41,7 +40,7 @@ fn next_above(level: &[[u8; 32]]) -> Option<([u8; 32], &[[u8; 32]])>
 }
 
 // Returns the level above `level`: its digests paired from the left.
-fn paired(alloc: Global, level: &[[u8; 32]]) -> Result<Vec<[u8; 32]>, Memory>
+fn paired(alloc: Global, level: &[[u8; 32]]) -> Result<Vec<[u8; 32]>, AllocError>
     ensures { IfOk result (λ above. above.items ≡ paired level.now) }
 {
     let mut above = Vec::with_capacity(alloc, level.len() / 2 + level.len() % 2)?;
@@ -71,7 +70,7 @@ fn partner_at(level: &[[u8; 32]], place: usize) -> Option<[u8; 32]>
 
 impl Tree {
     /// Makes the tree over the digests `leaves` of a file's pages.
-    pub fn over(alloc: Global, leaves: Vec<[u8; 32]>) -> Result<Tree, Memory>
+    pub fn over(alloc: Global, leaves: Vec<[u8; 32]>) -> Result<Tree, AllocError>
         requires some { 1 ≤ vec_len leaves }
         requires few { vec_len leaves < 2 ^ 32 }
         ensures { IfOk result (λ tree. tree ≡ leaves.items) }
@@ -97,7 +96,7 @@ impl Tree {
     }
 
     /// Returns the path of page `page`.
-    pub fn path(&self, alloc: Global, page: u32) -> Result<Vec<[u8; 32]>, Memory>
+    pub fn path(&self, alloc: Global, page: u32) -> Result<Vec<[u8; 32]>, AllocError>
         ensures { IfOk result (λ path. path.items ≡ path_in (levels_over self.now) page) }
     {
         let mut path = Vec::new(alloc);

@@ -4,13 +4,13 @@ ghost use Rattle.page_store.specs.Reading.{is_within};
 ghost use Rattle.seal_log.specs.Judged.{fault_by, judged_fault};
 ghost use Rattle.seal_log.specs.Laws.{ShowsAnswers};
 
-use crate::{Carried, Memory, ProofFault};
+use crate::{Carried, ProofFault};
 use log_model::Log;
 use log_verify::{Verdict, verify};
 use metric_laws::{Listed, Meter, Metric, Point};
 use page_store::{PageFault, Pages, SharedNode};
 use scan_model::{Hit, Query};
-use std::alloc::Global;
+use std::alloc::{AllocError, Global};
 
 /// The pages of a carried file. Pages that aren't carried are zero.
 #[derive(Drop)]
@@ -64,7 +64,7 @@ pub struct Proved {
 }
 
 // Copies a query.
-fn copy_query(alloc: Global, query: &Query) -> Result<Query, Memory>
+fn copy_query(alloc: Global, query: &Query) -> Result<Query, AllocError>
     ensures { IfOk result (λ copy. copy ≡ query.now) }
 {
     match query {
@@ -80,7 +80,7 @@ fn copy_query(alloc: Global, query: &Query) -> Result<Query, Memory>
 }
 
 // Copies a log's query and answers.
-fn shown_by(alloc: Global, log: &Log) -> Result<Proved, Memory>
+fn shown_by(alloc: Global, log: &Log) -> Result<Proved, AllocError>
     ensures { IfOk result (λ proved. (proved.query ≡ log.now.query) × (proved.answers ≡ log.now.answers)) }
 {
     let query = copy_query(alloc, &log.query)?;

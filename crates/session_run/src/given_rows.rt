@@ -7,9 +7,9 @@ ghost use Rattle.rows_text.specs.Readable.{IsReadable};
 ghost use Rattle.session_run.specs.GivenRows.{insert_at, inserts_of, load_of, tags_if};
 
 use crate::requests::Requests;
-use metric_laws::{Listed, Memory, Point, Rows};
+use metric_laws::{Listed, Point, Rows};
 use rows_text::{Command, Refusal};
-use std::alloc::Global;
+use std::alloc::{AllocError, Global};
 
 /// Rows of one number of coordinates, with their tags or without.
 #[derive(Drop)]
@@ -32,7 +32,7 @@ pub struct RowsToLoad(pub GivenRows);
 pub struct RowsToInsert(pub GivenRows);
 
 // Copies `count` rows of `width` numbers, which stand one after another.
-fn rows_from(alloc: Global, cells: &[u32], width: usize, count: usize) -> Result<Rows, Memory>
+fn rows_from(alloc: Global, cells: &[u32], width: usize, count: usize) -> Result<Rows, AllocError>
     requires whole { length cells.now ≡ count * width }
     ensures { IfOk result (λ rows. rows ≡ record { dimension = width; points = rows_of width count cells.now }) }
 {
@@ -44,7 +44,7 @@ fn rows_from(alloc: Global, cells: &[u32], width: usize, count: usize) -> Result
 }
 
 // Copies the tags of rows that have tags.
-fn tags_from(alloc: Global, tagged: bool, tags: &[u64]) -> Result<Option<Listed<u64>>, Memory>
+fn tags_from(alloc: Global, tagged: bool, tags: &[u64]) -> Result<Option<Listed<u64>>, AllocError>
     ensures { IfOk result (λ copied. copied ≡ tags_if tagged tags.now) }
 {
     if !tagged {
@@ -63,7 +63,7 @@ impl GivenRows {
         count: usize,
         tagged: bool,
         tags: &[u64],
-    ) -> Result<Self, Memory>
+    ) -> Result<Self, AllocError>
         requires whole { length cells.now ≡ count * width }
         requires few { count < 2 ^ 32 }
         requires each { IsTrue tagged → length tags.now ≡ count }
@@ -76,7 +76,7 @@ impl GivenRows {
     }
 
     // Returns the insert of row `i`, over points of `dimension` coordinates.
-    fn insert_at(&self, alloc: Global, dimension: usize, i: usize) -> Result<Command, Memory>
+    fn insert_at(&self, alloc: Global, dimension: usize, i: usize) -> Result<Command, AllocError>
         requires { i < length self.now.rows.points }
         ensures command { IfOk result (λ command. command ≡ insert_at self.now.rows self.now.tags dimension i) }
         ensures readable { IfOk result (IsReadable dimension) }
@@ -116,7 +116,7 @@ fn load_of(given: GivenRows, dimension: usize) -> Command
 impl Requests for RowsToLoad {
     ghost commands = { λ r dimension. load_of r.0.rows r.0.tags dimension };
 
-    fn read(self, alloc: Global, dimension: usize) -> Result<Vec<Command>, Memory> {
+    fn read(self, alloc: Global, dimension: usize) -> Result<Vec<Command>, AllocError> {
         let RowsToLoad(given) = self;
         let command = load_of(given, dimension);
         Ok(vec![in alloc; command]?)
@@ -126,7 +126,7 @@ impl Requests for RowsToLoad {
 impl Requests for RowsToInsert {
     ghost commands = { λ r dimension. inserts_of r.0.rows r.0.tags dimension };
 
-    fn read(self, alloc: Global, dimension: usize) -> Result<Vec<Command>, Memory> {
+    fn read(self, alloc: Global, dimension: usize) -> Result<Vec<Command>, AllocError> {
         let given = &self.0;
         let mut commands = Vec::with_capacity(alloc, given.rows.len())?;
         for i in 0..given.rows.len() {

@@ -5,9 +5,8 @@ ghost use Rattle.rows_text.specs.declared.command.Command.{Command as Asked};
 ghost use Rattle.rows_text.specs.Readable.{IsReadable};
 ghost use Rattle.session_run.specs.Job.{asked_by};
 
-use metric_laws::Memory;
 use rows_text::{Command, read_script};
-use std::alloc::Global;
+use std::alloc::{AllocError, Global};
 
 /// What a session is asked. Its commands are known once the number of coordinates of a point is.
 pub trait Requests: Drop {
@@ -15,7 +14,7 @@ pub trait Requests: Drop {
     ghost commands: { Self → ℕ → List Asked };
 
     /// Returns the commands for points of `dimension` coordinates.
-    fn read(self, alloc: Global, dimension: usize) -> Result<Vec<Command>, Memory>
+    fn read(self, alloc: Global, dimension: usize) -> Result<Vec<Command>, AllocError>
         requires some_coordinates { 1 ≤ dimension }
         requires few_coordinates { dimension ≤ 64 }
         ensures commands { IfOk result (λ asked. asked.items ≡ commands self dimension) }
@@ -43,7 +42,7 @@ impl<'a> ScriptBytes<'a> {
 impl Requests for ScriptBytes<'_> {
     ghost commands = { λ s. asked_by s.bytes.now };
 
-    fn read(self, alloc: Global, dimension: usize) -> Result<Vec<Command>, Memory> {
+    fn read(self, alloc: Global, dimension: usize) -> Result<Vec<Command>, AllocError> {
         read_script(alloc, self.bytes, dimension)
     }
 }

@@ -5,11 +5,11 @@ use batch_run::{ImageFault, audit_image, batch, read_image, read_parts, sound_by
 use disk_model::{Disk, MemoryDisk, SharedDisk};
 use image_answers::Outcome;
 use meeting::{Meeting, Seen};
-use metric_laws::{Memory, Metric};
+use metric_laws::Metric;
 use node_page::NodeFault;
 use page_store::PageFault;
 use rows_text::{read_script, reply_text};
-use std::alloc::Global;
+use std::alloc::{AllocError, Global};
 use std::process::Abort;
 use std::thread::Threads;
 use tree_audit::{AuditFault, Audited};
@@ -84,7 +84,7 @@ fn line(rt: &(impl AllocGlobal + Abort)) -> Vec<u8> {
 }
 
 // Adds what an outcome says.
-fn push_outcome(outcome: &Outcome, text: &mut Vec<u8>) -> Result<(), Memory> {
+fn push_outcome(outcome: &Outcome, text: &mut Vec<u8>) -> Result<(), AllocError> {
     match outcome {
         Outcome::Done { reply, .. } => reply_text(reply, false, text),
         Outcome::Damaged(PageFault::Bad(4, NodeFault::Kind)) => text.extend_from_slice(
@@ -97,7 +97,7 @@ fn push_outcome(outcome: &Outcome, text: &mut Vec<u8>) -> Result<(), Memory> {
 }
 
 // Adds what all outcomes say.
-fn push_all(outcomes: &[Outcome], text: &mut Vec<u8>) -> Result<(), Memory> {
+fn push_all(outcomes: &[Outcome], text: &mut Vec<u8>) -> Result<(), AllocError> {
     for outcome in outcomes {
         push_outcome(outcome, text)?;
     }
@@ -361,7 +361,7 @@ fn two_workers_of_an_audit_meet(rt: HostRuntime) {
 }
 
 // Makes a disk of `bytes` with room for `room` bytes whose calls numbered in `fails` fail.
-fn try_disk(alloc: Global, bytes: Vec<u8>, room: u64, fails: &[u64]) -> Result<MemoryDisk, Memory> {
+fn try_disk(alloc: Global, bytes: Vec<u8>, room: u64, fails: &[u64]) -> Result<MemoryDisk, AllocError> {
     let room = room.max(bytes.len() as u64);
     MemoryDisk::new(alloc, bytes, room, room, fails.to_vec(alloc)?, None)
 }

@@ -7,9 +7,9 @@ use batch_run::jobs::{audit_index_by, run_batch};
 use disk_model::{Disk, MemoryDisk};
 use job_files::create_index;
 use node_page::Head;
-use outside_io::{Memory, MemorySink, MemorySource, Sink, Status};
+use outside_io::{MemorySink, MemorySource, Sink, Status};
 use prune_log::decode_frames;
-use std::alloc::Global;
+use std::alloc::{AllocError, Global};
 use std::process::Abort;
 use std::thread::Threads;
 
@@ -30,7 +30,7 @@ fn head() -> Head
 }
 
 // Lists the call that fails, if one does.
-fn failing(alloc: Global, call: Option<u64>) -> Result<Vec<u64>, Memory> {
+fn failing(alloc: Global, call: Option<u64>) -> Result<Vec<u64>, AllocError> {
     let mut calls = Vec::new(alloc);
     if let Some(call) = call {
         calls.push(call)?;
@@ -39,7 +39,7 @@ fn failing(alloc: Global, call: Option<u64>) -> Result<Vec<u64>, Memory> {
 }
 
 // Makes a disk of `bytes` whose call `fails` fails, if any.
-fn try_disk(alloc: Global, bytes: &[u8], fails: Option<u64>) -> Result<MemoryDisk, Memory> {
+fn try_disk(alloc: Global, bytes: &[u8], fails: Option<u64>) -> Result<MemoryDisk, AllocError> {
     let bytes = bytes.to_vec(alloc)?;
     let room = (bytes.len() as u64).max(1 << 16);
     MemoryDisk::new(alloc, bytes, room, 1 << 20, failing(alloc, fails)?, None)

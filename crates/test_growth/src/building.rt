@@ -8,10 +8,10 @@ use crate::groups::line;
 use crate::work::holds;
 use bulk_load::{Alone, BuildFault, build};
 use meeting::{Meeting, Seen, Threaded};
-use metric_laws::{Memory, Rows};
+use metric_laws::Rows;
 use node_page::Head;
 use page_store::{Placed, Staged};
-use std::alloc::Global;
+use std::alloc::{AllocError, Global};
 use std::process::Abort;
 use std::thread::Threads;
 use tree_shape::{
@@ -39,7 +39,7 @@ fn head_of(limit: u32) -> Head
 }
 
 // Gives a tag for each of `count` rows: 100 and its place.
-fn tags_of(alloc: Global, count: u32) -> Result<Vec<u64>, Memory>
+fn tags_of(alloc: Global, count: u32) -> Result<Vec<u64>, AllocError>
     ensures { IfOk result (λ tags. length tags.items ≡ count) }
 {
     let mut tags = Vec::new(alloc);

@@ -4,15 +4,15 @@ ghost use Rattle.vector_kinds.specs.Vectors.{vector_space};
 use crate::work::holds;
 use bulk_load::groups;
 use meeting::{Meeting, Seen, Threaded};
-use metric_laws::{Memory, Rows};
-use std::alloc::Global;
+use metric_laws::Rows;
+use std::alloc::{AllocError, Global};
 use std::process::Abort;
 use std::thread::Threads;
 use tree_growth::Group;
 use tree_shape::fill;
 
 // Gives `count` points of one coordinate, each `step` above the one before, and their places.
-pub fn line(alloc: Global, count: u32, step: u32) -> Result<(Rows, Vec<u32>), Memory>
+pub fn line(alloc: Global, count: u32, step: u32) -> Result<(Rows, Vec<u32>), AllocError>
     requires count { count ≤ 1024 }
     requires step { step ≤ 1 }
     ensures points { IfOk result (λ r. length r.0.points ≡ count) }

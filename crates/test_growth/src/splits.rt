@@ -3,16 +3,16 @@ ghost use Rattle.std.specs.List.{AllByRecursion};
 ghost use Rattle.metric_laws.specs.Space.{bound};
 
 use crate::work::holds;
-use metric_laws::{Memory, Meter, Point};
+use metric_laws::{Meter, Point};
 use promote_split::{Entry, Half, Halves, Matrix, Policy, partition, promote, split};
-use std::alloc::Global;
+use std::alloc::{AllocError, Global};
 use std::process::Abort;
 use tree_shape::{InnerEntry, LeafEntry};
 use vector_kinds::L1;
 
 // Gives the objects below `count`, each at its number.
 #[tactic(auto, using(crate::proofs::Every::all_of))]
-fn line(alloc: Global, count: u32) -> Result<Vec<LeafEntry>, Memory>
+fn line(alloc: Global, count: u32) -> Result<Vec<LeafEntry>, AllocError>
     ensures long { IfOk result (λ entries. length entries.items ≡ count) }
     ensures near { IfOk result (λ entries. AllByRecursion (λ (e : LeafEntry). 0 ≤ bound) entries.items) }
 {

@@ -1,9 +1,9 @@
 ghost use Rattle.std.specs.Prelude.{◌≡◌, ◌≤◌, ◌*◌, ◌^◌, length, IfOk};
 
 use meeting::{Meeting, Seen};
-use metric_laws::{Memory, Rows};
+use metric_laws::Rows;
 use par_work::{Job, fork, rows, share};
-use std::alloc::Global;
+use std::alloc::{AllocError, Global};
 use std::process::Abort;
 use std::thread::Threads;
 use vector_kinds::L1;
@@ -17,7 +17,7 @@ pub(crate) fn holds(rt: &impl Abort, is_so: bool) {
 const WORKERS: [usize; 4] = [1, 2, 3, 64];
 
 // Gives the numbers below `count` as points.
-fn line(alloc: Global, count: u32) -> Result<Rows, Memory>
+fn line(alloc: Global, count: u32) -> Result<Rows, AllocError>
     ensures { IfOk result (λ points. length points.points ≡ count) }
 {
     let mut points = Rows::new(alloc, 1);

@@ -7,13 +7,13 @@ use crate::trial::{holds, index_nearest, index_range, opened};
 use disk_model::{Disk, MemoryDisk};
 use index_core::{Index, IndexFault, Shape, ShapeLine, View};
 use log_model::Found;
-use metric_laws::{Memory, Metric};
+use metric_laws::Metric;
 use node_page::{Head, HeadFault, Slot, encode_head, encode_slot};
 use page_store::PageFault;
 use scan_model::Hit;
 use shadow_root::OpenFault;
 use small_trees::{pad, six_entries, two_leaves};
-use std::alloc::Global;
+use std::alloc::{AllocError, Global};
 use std::process::Abort;
 use tree_shape::Live;
 use vector_kinds::L1;
@@ -49,7 +49,7 @@ pub(crate) const SIX: Live = Live {
 
 // Gives the head, the slot of `live`, and a slot that is closed.
 #[tactic(auto, unfolding(node_page::specs::Heads::is_version, node_page::specs::Heads::is_space, node_page::specs::Heads::is_policy, node_page::specs::Heads::is_limit))]
-pub(crate) fn file_of(alloc: Global, live: &Live) -> Result<Vec<u8>, Memory> {
+pub(crate) fn file_of(alloc: Global, live: &Live) -> Result<Vec<u8>, AllocError> {
     let mut page = [0; 4096];
     encode_head(&HEAD, &mut page);
     let mut bytes = page.to_vec(alloc)?;
@@ -68,13 +68,13 @@ pub(crate) fn file_of(alloc: Global, live: &Live) -> Result<Vec<u8>, Memory> {
 }
 
 // Makes a disk of `bytes` whose calls numbered in `fails` fail.
-fn disk_of(alloc: Global, bytes: Vec<u8>, fails: &[u64]) -> Result<MemoryDisk, Memory> {
+fn disk_of(alloc: Global, bytes: Vec<u8>, fails: &[u64]) -> Result<MemoryDisk, AllocError> {
     let room = bytes.len() as u64;
     MemoryDisk::new(alloc, bytes, room, 100, fails.to_vec(alloc)?, None)
 }
 
 // Makes the disk of the numbers 0 to 32 whose calls numbered in `fails` fail.
-fn try_numbers(alloc: Global, fails: &[u64]) -> Result<MemoryDisk, Memory> {
+fn try_numbers(alloc: Global, fails: &[u64]) -> Result<MemoryDisk, AllocError> {
     disk_of(
         alloc,
         two_leaves(alloc, file_of(alloc, &NUMBERS)?, 4)?,
@@ -329,7 +329,7 @@ fn a_read_that_fails(rt: HostRuntime) {
 }
 
 // Makes the disk of a tree whose root names the page `child` six times.
-fn try_damaged(alloc: Global, child: u32) -> Result<MemoryDisk, Memory> {
+fn try_damaged(alloc: Global, child: u32) -> Result<MemoryDisk, AllocError> {
     disk_of(
         alloc,
         six_entries(alloc, file_of(alloc, &SIX)?, child)?,
@@ -356,7 +356,7 @@ fn a_damaged_file_is_refused(rt: HostRuntime) {
 }
 
 // Makes the disk of the numbers 0 to 32 whose byte at `at` is changed.
-fn try_changed(alloc: Global, at: usize, byte: u8) -> Result<MemoryDisk, Memory> {
+fn try_changed(alloc: Global, at: usize, byte: u8) -> Result<MemoryDisk, AllocError> {
     let mut bytes = two_leaves(alloc, file_of(alloc, &NUMBERS)?, 4)?;
     if at < bytes.len() {
         bytes[at] = byte;

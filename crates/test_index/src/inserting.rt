@@ -8,10 +8,10 @@ use crate::trial::{
 };
 use disk_model::{Disk, MemoryDisk};
 use index_core::{Index, IndexFault};
-use metric_laws::{Memory, Metric};
+use metric_laws::Metric;
 use page_store::PageFault;
 use small_trees::six_entries;
-use std::alloc::Global;
+use std::alloc::{AllocError, Global};
 use std::process::Abort;
 use tree_shape::Live;
 
@@ -223,7 +223,7 @@ fn a_worn_index_takes_no_more(rt: HostRuntime) {
 }
 
 // Gives the bytes of a tree whose root names the page `child` six times.
-fn damaged_file(alloc: Global, child: u32) -> Result<Vec<u8>, Memory> {
+fn damaged_file(alloc: Global, child: u32) -> Result<Vec<u8>, AllocError> {
     six_entries(alloc, file_of(alloc, &SIX)?, child)
 }
 

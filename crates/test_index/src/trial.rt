@@ -7,11 +7,11 @@ use crate::index::{file_of, has_first};
 use disk_model::{Disk, MemoryDisk};
 use index_core::{Index, IndexFault};
 use log_model::Found;
-use metric_laws::{Memory, Metric};
+use metric_laws::Metric;
 use node_page::Head;
 use shadow_root::{OpenFault, create};
 use small_trees::pad;
-use std::alloc::Global;
+use std::alloc::{AllocError, Global};
 use std::process::Abort;
 use tree_shape::{LAST_GENERATION, Live};
 use vector_kinds::L1;
@@ -25,7 +25,7 @@ pub(crate) fn holds(rt: &impl Abort, is_so: bool) {
 // theirs looks into its state.
 pub(crate) trait Watched: Sized {
     // Makes a disk of `bytes` with room for sixteen pages. The calls numbered in `fails` fail, and all from `stop` on.
-    fn of(alloc: Global, bytes: Vec<u8>, fails: &[u64], stop: Option<u64>) -> Result<Self, Memory>;
+    fn of(alloc: Global, bytes: Vec<u8>, fails: &[u64], stop: Option<u64>) -> Result<Self, AllocError>;
 
     // Counts the calls made.
     fn calls(&self) -> u64;
@@ -34,11 +34,11 @@ pub(crate) trait Watched: Sized {
     fn file(&self) -> &[u8];
 
     // Gives a file that a crash within the call `moment`, or after the last one, may leave.
-    fn left(&self, alloc: Global, moment: u64, pick: u64) -> Result<Vec<u8>, Memory>;
+    fn left(&self, alloc: Global, moment: u64, pick: u64) -> Result<Vec<u8>, AllocError>;
 }
 
 impl Watched for MemoryDisk {
-    fn of(alloc: Global, bytes: Vec<u8>, fails: &[u64], stop: Option<u64>) -> Result<Self, Memory> {
+    fn of(alloc: Global, bytes: Vec<u8>, fails: &[u64], stop: Option<u64>) -> Result<Self, AllocError> {
         let room = (bytes.len() as u64).max(1 << 16);
         MemoryDisk::new(alloc, bytes, room, 1 << 22, fails.to_vec(alloc)?, stop)
     }
@@ -51,7 +51,7 @@ impl Watched for MemoryDisk {
         self.bytes()
     }
 
-    fn left(&self, alloc: Global, moment: u64, pick: u64) -> Result<Vec<u8>, Memory> {
+    fn left(&self, alloc: Global, moment: u64, pick: u64) -> Result<Vec<u8>, AllocError> {
         self.image(alloc, moment.min(self.moments()), pick)
     }
 }
@@ -151,7 +151,7 @@ pub(crate) fn empty_disk<D: Disk + Watched + Drop>(
 }
 
 // Gives the bytes of an index that has no objects and no further generation.
-fn worn_file(alloc: Global) -> Result<Vec<u8>, Memory> {
+fn worn_file(alloc: Global) -> Result<Vec<u8>, AllocError> {
     let last = Live {
         side: 0,
         generation: LAST_GENERATION,

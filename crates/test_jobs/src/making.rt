@@ -1,10 +1,10 @@
 use crate::files::{disk_of, holds, sink_of};
 use disk_model::Disk;
-use job_make::{Generation, Memory, generate_index, generated_rows, migrate_index};
+use job_make::{Generation, generate_index, generated_rows, migrate_index};
 use load_threads::ByThreads;
 use node_page::Head;
 use outside_io::{Sink, Status};
-use std::alloc::Global;
+use std::alloc::{AllocError, Global};
 use std::process::Abort;
 use std::thread::Threads;
 
@@ -129,7 +129,7 @@ struct Migration<'a> {
 }
 
 // Gives the file of these pages.
-fn try_file(alloc: Global, pages: &[Page]) -> Result<Vec<u8>, Memory> {
+fn try_file(alloc: Global, pages: &[Page]) -> Result<Vec<u8>, AllocError> {
     let mut bytes = Vec::new(alloc);
     for page in pages {
         for word in page.iter() {

@@ -1,10 +1,7 @@
 ghost use Rattle.std.specs.Prelude.{◌≤◌, length};
 
-use disk_model::{
-    Disk, Failed, FileDisk, FileProperty, Memory, MemoryDisk, SharedDisk, images_mix, looks_join,
-    opening_then_stretch, read_may_be_left, stretch_goes_on, stretches_join, written_is_torn,
-};
-use std::alloc::Global;
+use disk_model::{Disk, Failed, FileDisk, FileProperty, MemoryDisk, SharedDisk, images_mix, looks_join, opening_then_stretch, read_may_be_left, stretch_goes_on, stretches_join, written_is_torn};
+use std::alloc::{AllocError, Global};
 use std::fs::{self, File, OpenOptions};
 use std::process::Abort;
 
@@ -178,7 +175,7 @@ fn check_image(
 }
 
 // Makes a disk that holds 1, 2, 3. The calls numbered in `fails` fail, and all from `stop` on.
-fn try_disk(alloc: Global, fails: &[u64], stop: Option<u64>) -> Result<MemoryDisk, Memory> {
+fn try_disk(alloc: Global, fails: &[u64], stop: Option<u64>) -> Result<MemoryDisk, AllocError> {
     let first = [1, 2, 3].to_vec(alloc)?;
     MemoryDisk::new(alloc, first, 8, 20, fails.to_vec(alloc)?, stop)
 }

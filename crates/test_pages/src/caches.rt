@@ -8,9 +8,9 @@ ghost use Rattle.page_cache.specs.Laws.{GrowsTo};
 
 use disk_model::{Disk, MemoryDisk};
 use page_cache::{Cached, Kept, laws};
-use page_store::{DiskPages, Memory, PageFault, Pages};
+use page_store::{DiskPages, PageFault, Pages};
 use small_trees::{pad, two_leaves};
-use std::alloc::Global;
+use std::alloc::{AllocError, Global};
 use std::process::Abort;
 use std::test::Fail;
 use tree_shape::Node;
@@ -21,13 +21,13 @@ pub(crate) fn holds(rt: &impl Abort, is_so: bool) {
 }
 
 // Makes a disk of `bytes` whose calls numbered in `fails` fail.
-fn disk_with(alloc: Global, bytes: Vec<u8>, fails: &[u64]) -> Result<MemoryDisk, Memory> {
+fn disk_with(alloc: Global, bytes: Vec<u8>, fails: &[u64]) -> Result<MemoryDisk, AllocError> {
     let room = bytes.len() as u64;
     MemoryDisk::new(alloc, bytes, room, 100, fails.to_vec(alloc)?, None)
 }
 
 // Makes a disk of the two leaves and their root whose calls numbered in `fails` fail.
-fn disk_of(alloc: Global, fails: &[u64]) -> Result<MemoryDisk, Memory> {
+fn disk_of(alloc: Global, fails: &[u64]) -> Result<MemoryDisk, AllocError> {
     disk_with(alloc, two_leaves(alloc, Vec::new(alloc), 4)?, fails)
 }
 
@@ -121,7 +121,7 @@ fn a_kept_page_is_not_read_again(rt: HostRuntime) {
 }
 
 // Makes a disk of eight pages.
-fn eight_pages(alloc: Global) -> Result<MemoryDisk, Memory> {
+fn eight_pages(alloc: Global) -> Result<MemoryDisk, AllocError> {
     let mut bytes = two_leaves(alloc, Vec::new(alloc), 4)?;
     pad(&mut bytes, 8 * 4096)?;
     disk_with(alloc, bytes, &[])

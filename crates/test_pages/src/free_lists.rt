@@ -4,8 +4,8 @@ use crate::caches::holds;
 use disk_model::{Disk, MemoryDisk};
 use free_pages::{Free, laws};
 use node_page::NodeFault;
-use page_store::{DiskPages, ImagePages, Memory, PageFault};
-use std::alloc::Global;
+use page_store::{DiskPages, ImagePages, PageFault};
+use std::alloc::{AllocError, Global};
 use std::process::Abort;
 use tree_shape::Live;
 
@@ -176,7 +176,7 @@ fn the_walk_goes_down_first(rt: HostRuntime) {
 }
 
 // Makes a disk of `bytes` that all calls from `stop` on fail.
-fn disk_of(alloc: Global, bytes: Vec<u8>, stop: u64) -> Result<MemoryDisk, Memory> {
+fn disk_of(alloc: Global, bytes: Vec<u8>, stop: u64) -> Result<MemoryDisk, AllocError> {
     let room = bytes.len() as u64;
     MemoryDisk::new(alloc, bytes, room, 100, Vec::new(alloc), Some(stop))
 }

@@ -1,9 +1,8 @@
 use crate::caches::holds;
 use disk_model::{Disk, MemoryDisk};
-use metric_laws::Memory;
 use node_page::{NodeFault, Version};
 use page_store::{DiskPages, ImagePages, PageFault, Pages, Staged, laws};
-use std::alloc::Global;
+use std::alloc::{AllocError, Global};
 use std::process::Abort;
 use tree_shape::{LeafEntries, Node};
 
@@ -25,7 +24,7 @@ fn file(rt: &(impl AllocGlobal + Abort)) -> Vec<u8> {
 }
 
 // Makes a disk of `bytes` that all calls from `stop` on fail.
-fn disk_of(alloc: Global, bytes: Vec<u8>, stop: Option<u64>) -> Result<MemoryDisk, Memory> {
+fn disk_of(alloc: Global, bytes: Vec<u8>, stop: Option<u64>) -> Result<MemoryDisk, AllocError> {
     let room = bytes.len() as u64;
     MemoryDisk::new(alloc, bytes, room, 100, Vec::new(alloc), stop)
 }

@@ -1,14 +1,13 @@
 ghost use Rattle.std.specs.Prelude.{◌≡◌, ◌≤◌, ◌^◌, length, IfOk};
 
 use crate::caches::holds;
-use metric_laws::Memory;
 use page_store::{NewTree, Numbering, Placed, RoomFault, Staged, settle};
-use std::alloc::Global;
+use std::alloc::{AllocError, Global};
 use std::process::Abort;
 use tree_shape::{LeafEntries, Live, Node};
 
 // Makes three empty leaves. The last is the root.
-fn three_leaves(alloc: Global, root: u32) -> Result<NewTree, Memory>
+fn three_leaves(alloc: Global, root: u32) -> Result<NewTree, AllocError>
     ensures { IfOk result (λ tree. (length tree.nodes.items ≡ 3) × (tree.root ≡ root) × (tree.height ≡ 0) × (tree.added ≡ 5)) }
 {
     let mut nodes = Vec::new(alloc);

@@ -8,10 +8,8 @@ use metric_laws::{Listed, Point};
 use node_page::HeadFault;
 use prune_log::LogFault;
 use scan_model::{Hit, Query};
-use seal_log::{
-    Carried, Memory, ProofFault, SealFault, Tree, carry, read_proof, seal, verify_carried,
-};
-use std::alloc::Global;
+use seal_log::{Carried, ProofFault, SealFault, Tree, carry, read_proof, seal, verify_carried};
+use std::alloc::{AllocError, Global};
 use std::process::Abort;
 use vector_kinds::L1;
 
@@ -86,7 +84,7 @@ pub(crate) fn small_log(rt: &(impl AllocGlobal + Abort)) -> Log
 }
 
 // Makes a disk with a file whose calls numbered in `fails` fail.
-fn try_disk(alloc: Global, file: Vec<u8>, fails: &[u64]) -> Result<MemoryDisk, Memory> {
+fn try_disk(alloc: Global, file: Vec<u8>, fails: &[u64]) -> Result<MemoryDisk, AllocError> {
     let room = file.len() as u64;
     MemoryDisk::new(alloc, file, room, 100, fails.to_vec(alloc)?, None)
 }

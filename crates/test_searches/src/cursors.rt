@@ -1,10 +1,10 @@
 use crate::given::{holds, leaves, torn_leaves};
-use metric_laws::{Memory, Meter, Point, Ruler};
+use metric_laws::{Meter, Point, Ruler};
 use node_page::NodeFault;
 use page_store::{ImagePages, PageFault};
 use pin_cursor::{Cursor, Stepped};
 use scan_model::Hit;
-use std::alloc::Global;
+use std::alloc::{AllocError, Global};
 use std::process::Abort;
 use tree_shape::Live;
 use vector_kinds::L1;
@@ -20,7 +20,7 @@ const LIVE: Live = Live {
 };
 
 // Opens a cursor at the number `q`.
-fn try_cursor(alloc: Global, q: u32) -> Result<Cursor, Memory> {
+fn try_cursor(alloc: Global, q: u32) -> Result<Cursor, AllocError> {
     Cursor::open(alloc, LIVE, Point::new(alloc, &[q])?)
 }
 

@@ -1,9 +1,9 @@
 use crate::given::holds;
-use image_answers::{Memory, Outcome, range_outcome};
+use image_answers::{Outcome, range_outcome};
 use metric_laws::Point;
 use page_store::Image;
 use rows_text::{Reply, reply_text};
-use std::alloc::Global;
+use std::alloc::{AllocError, Global};
 use std::process::Abort;
 use tree_shape::Live;
 use vector_kinds::L1;
@@ -19,7 +19,7 @@ const PAIR: Live = Live {
 };
 
 // Gives that index over points of one coordinate: the points 4 and 9, with the tags 7 and 8.
-fn pair(alloc: Global) -> Result<Vec<u8>, Memory> {
+fn pair(alloc: Global) -> Result<Vec<u8>, AllocError> {
     let mut image = vec![in alloc; 0u8; 16384]?;
     let bytes = [
         (12291, 2),
@@ -38,7 +38,7 @@ fn pair(alloc: Global) -> Result<Vec<u8>, Memory> {
 }
 
 // Writes a reply that has hits, with their tags.
-fn write_reply(reply: &Reply, text: &mut Vec<u8>) -> Result<(), Memory> {
+fn write_reply(reply: &Reply, text: &mut Vec<u8>) -> Result<(), AllocError> {
     if let Reply::Hits { hits, tags } = reply {
         if hits.as_slice().len() == tags.as_slice().len() {
             return reply_text(reply, true, text);
@@ -48,7 +48,7 @@ fn write_reply(reply: &Reply, text: &mut Vec<u8>) -> Result<(), Memory> {
 }
 
 // Writes an outcome: the reply with its tags, and a word where there is a log.
-fn write_outcome(outcome: &Outcome, text: &mut Vec<u8>) -> Result<(), Memory> {
+fn write_outcome(outcome: &Outcome, text: &mut Vec<u8>) -> Result<(), AllocError> {
     match outcome {
         Outcome::Done { reply, log } => {
             write_reply(reply, text)?;

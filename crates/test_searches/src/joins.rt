@@ -4,12 +4,12 @@ use crate::given::{holds, leaves, six};
 use disk_model::{Disk, MemoryDisk};
 use log_model::{Joined, Mark};
 use metric_join::{JoinFault, join};
-use metric_laws::{Memory, Meter};
+use metric_laws::Meter;
 use node_page::NodeFault;
 use page_store::{DiskPages, ImagePages, PageFault};
 use scan_model::Pair;
 use small_trees::{Entry, one_leaf, pad};
-use std::alloc::Global;
+use std::alloc::{AllocError, Global};
 use std::process::Abort;
 use tree_shape::Live;
 use vector_kinds::L1;
@@ -328,7 +328,7 @@ fn faults_as_words(rt: HostRuntime) {
 }
 
 // Makes a disk of `bytes` that all calls from `stop` on fail.
-fn try_disk(alloc: Global, bytes: Vec<u8>, stop: Option<u64>) -> Result<MemoryDisk, Memory> {
+fn try_disk(alloc: Global, bytes: Vec<u8>, stop: Option<u64>) -> Result<MemoryDisk, AllocError> {
     let room = (bytes.len() as u64).max(65536);
     MemoryDisk::new(alloc, bytes, room, 100, Vec::new(alloc), stop)
 }

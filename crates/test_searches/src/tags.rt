@@ -1,13 +1,13 @@
 use crate::given::{holds, leaves, torn_leaves};
 use disk_model::{Disk, FileDisk, MemoryDisk};
-use hit_tags::{Memory, marked_tags, tags_of};
+use hit_tags::{marked_tags, tags_of};
 use log_model::{Found, Log, Mark, Record};
 use metric_laws::{Listed, Point};
 use node_page::NodeFault;
 use page_store::{DiskPages, ImagePages, PageFault, Pages};
 use scan_model::{Hit, Query};
 use small_trees::{Entry, one_leaf};
-use std::alloc::Global;
+use std::alloc::{AllocError, Global};
 use std::fs::{self, File};
 use std::process::Abort;
 use tree_shape::Live;
@@ -26,7 +26,7 @@ const NUMBERS: Live = Live {
 type Marked = (u32, u8, u8, u8);
 
 // Makes `count` marks, Near from place `from` up to place `to`.
-fn marks_of(alloc: Global, count: u8, from: u8, to: u8) -> Result<Vec<Mark>, Memory> {
+fn marks_of(alloc: Global, count: u8, from: u8, to: u8) -> Result<Vec<Mark>, AllocError> {
     let mut marks = Vec::new(alloc);
     for i in 0..count {
         marks.push(if from <= i && i < to {
@@ -53,7 +53,7 @@ fn records_of(rt: &(impl AllocGlobal + Abort), marked: &[Marked]) -> Vec<Record>
 }
 
 // Makes hits with these ids.
-fn hits_of(alloc: Global, ids: &[u32]) -> Result<Vec<Hit>, Memory> {
+fn hits_of(alloc: Global, ids: &[u32]) -> Result<Vec<Hit>, AllocError> {
     let mut hits = Vec::new(alloc);
     for id in ids {
         hits.push(Hit { id: *id, dist: 0 })?;

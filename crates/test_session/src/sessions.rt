@@ -5,7 +5,7 @@ ghost use Rattle.index_core.specs.Index.{MayGoOn};
 use bulk_load::Alone;
 use disk_model::{Disk, MemoryDisk};
 use index_core::Index;
-use metric_laws::{Memory, Metric};
+use metric_laws::Metric;
 use node_page::Head;
 use outside_io::{MemorySink, Sink};
 use page_store::PageFault;
@@ -14,7 +14,7 @@ use rows_text::read_script;
 use session_run::laws::turns_are_their_meaning;
 use session_run::{Ended, SessionStop, session};
 use shadow_root::{OpenFault, create};
-use std::alloc::Global;
+use std::alloc::{AllocError, Global};
 use std::process::Abort;
 use vector_kinds::L1;
 
@@ -29,7 +29,7 @@ trait Watched {
     fn file(&self) -> &[u8];
 
     // Gives a file that a crash after the last call may leave.
-    fn left(&self, alloc: Global, pick: u64) -> Result<Vec<u8>, Memory>;
+    fn left(&self, alloc: Global, pick: u64) -> Result<Vec<u8>, AllocError>;
 }
 
 impl Watched for MemoryDisk {
@@ -37,7 +37,7 @@ impl Watched for MemoryDisk {
         self.bytes()
     }
 
-    fn left(&self, alloc: Global, pick: u64) -> Result<Vec<u8>, Memory> {
+    fn left(&self, alloc: Global, pick: u64) -> Result<Vec<u8>, AllocError> {
         self.image(alloc, self.moments(), pick)
     }
 }
@@ -59,7 +59,7 @@ fn head() -> Head
 }
 
 // Makes a disk of `bytes` with room for sixteen pages. All calls from `stop` on fail.
-fn try_disk(alloc: Global, bytes: Vec<u8>, stop: Option<u64>) -> Result<MemoryDisk, Memory> {
+fn try_disk(alloc: Global, bytes: Vec<u8>, stop: Option<u64>) -> Result<MemoryDisk, AllocError> {
     let room = (bytes.len() as u64).max(1 << 16);
     MemoryDisk::new(alloc, bytes, room, 1 << 22, Vec::new(alloc), stop)
 }
@@ -87,7 +87,7 @@ fn empty_disk(rt: &(impl AllocGlobal + Abort), stop: Option<u64>) -> MemoryDisk 
 }
 
 // Makes a sink whose puts numbered in `fails` fail.
-fn try_sink(alloc: Global, fails: &[u64]) -> Result<MemorySink, Memory> {
+fn try_sink(alloc: Global, fails: &[u64]) -> Result<MemorySink, AllocError> {
     MemorySink::new(alloc, 1 << 12, fails.to_vec(alloc)?)
 }
 

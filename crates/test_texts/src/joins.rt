@@ -2,14 +2,14 @@ ghost use Rattle.std.specs.Prelude.{◌≡◌, All, length, IsTrue, IfOk};
 ghost use Rattle.vector_kinds.specs.Vectors.{vector_space};
 
 use crate::words::holds;
-use metric_laws::{Memory, Rows};
+use metric_laws::Rows;
 use scan_model::{Pair, scan_join};
-use std::alloc::Global;
+use std::alloc::{AllocError, Global};
 use std::process::Abort;
 use vector_kinds::L1;
 
 // Makes three numbers into points of one coordinate.
-fn rows_of(alloc: Global, numbers: [u32; 3]) -> Result<Rows, Memory>
+fn rows_of(alloc: Global, numbers: [u32; 3]) -> Result<Rows, AllocError>
     ensures points { IfOk result (λ rows. length rows.points ≡ 3) }
     ensures fit { IfOk result (λ rows. All (λ p. IsTrue ((vector_space 2 1).is_point p)) rows.points) }
 {

@@ -10,8 +10,8 @@ use crate::AuditFault;
 use crate::met::Met;
 use crate::walking::{Spot, Visits, walk};
 use metric_laws::Ruler;
-use page_store::{Memory, Pages};
-use std::alloc::Global;
+use page_store::Pages;
+use std::alloc::{AllocError, Global};
 use tree_shape::Live;
 
 /// The numbers of a sound tree.
@@ -31,7 +31,7 @@ fn root_least(height: u32) -> usize
 }
 
 /// Makes empty visits, with room for the pages and objects of a file.
-pub fn visits_for(alloc: Global, live: &Live) -> Result<Visits, Memory>
+pub fn visits_for(alloc: Global, live: &Live) -> Result<Visits, AllocError>
     ensures { IfOk result (λ v. v ≡ record {
       pages = record { limit = live.now.pages; met = [] };
       ids = record { limit = live.now.count; met = [] };

@@ -3,8 +3,7 @@ ghost use Rattle.std.specs.List.{AllByRecursion};
 ghost use Rattle.tree_shape.specs.Tree.{times};
 ghost use Rattle.tree_audit.specs.Met.{AreFewer};
 
-use page_store::Memory;
-use std::alloc::Global;
+use std::alloc::{AllocError, Global};
 use std::marker::Model;
 
 /// Numbers below a limit that were met, in the order of meeting.
@@ -27,7 +26,7 @@ impl Model for Met {
 
 impl Met {
     /// Begins with no number below `limit` met.
-    pub fn new(alloc: Global, limit: u32) -> Result<Met, Memory>
+    pub fn new(alloc: Global, limit: u32) -> Result<Met, AllocError>
         ensures { IfOk result (λ m. m ≡ record { limit = limit; met = [] }) }
     {
         Ok(Met {
@@ -52,7 +51,7 @@ impl Met {
     }
 
     /// Notes `number`, which was not met before.
-    pub fn add(&mut self, number: u32) -> Result<(), Memory>
+    pub fn add(&mut self, number: u32) -> Result<(), AllocError>
         requires small { number < self.old.limit }
         requires new { times number self.old.met ≡ 0 }
         ensures ok { OnOk result (self.new ≡ record self.old { met = self.old.met ++ number ∷ [] }) }

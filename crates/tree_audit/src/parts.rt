@@ -15,8 +15,8 @@ use crate::auditing::{Audited, visits_for};
 use crate::met::Met;
 use crate::walking::{Spot, Visits, step_down, walk};
 use metric_laws::Ruler;
-use page_store::{Memory, Pages};
-use std::alloc::Global;
+use page_store::Pages;
+use std::alloc::{AllocError, Global};
 use tree_shape::{InnerRef, Live};
 
 /// What the walk of one part of a tree met, in the order of meeting.
@@ -115,7 +115,7 @@ pub fn audit_part<P: Pages, R: Ruler>(
 }
 
 // Notes numbers that are below the limit and were not met before. Stops, and returns false, at the first other one.
-fn note_all(met: &mut Met, numbers: &[u32]) -> Result<bool, Memory>
+fn note_all(met: &mut Met, numbers: &[u32]) -> Result<bool, AllocError>
     ensures limit { met.new.limit ≡ met.old.limit }
     ensures all { IfOk result (λ all. all ≡ true → met.new.met ≡ met.old.met ++ numbers.now) }
     ensures none { IfOk result (λ all. all ≡ false → AreNew met.old numbers.now → ⊥) }
@@ -130,7 +130,7 @@ fn note_all(met: &mut Met, numbers: &[u32]) -> Result<bool, Memory>
 }
 
 // Notes what a part met. Returns false where some of it is out of bounds or was met before.
-fn note_part(visits: &mut Visits, part: &Part) -> Result<bool, Memory>
+fn note_part(visits: &mut Visits, part: &Part) -> Result<bool, AllocError>
     ensures pages_limit { visits.new.pages.limit ≡ visits.old.pages.limit }
     ensures ids_limit { visits.new.ids.limit ≡ visits.old.ids.limit }
     ensures pages { IfOk result (λ all. all ≡ true → visits.new.pages.met ≡ visits.old.pages.met ++ part.now.pages.items) }
@@ -147,7 +147,7 @@ fn note_part(visits: &mut Visits, part: &Part) -> Result<bool, Memory>
 /// Returns the numbers of a tree whose root's entries were each audited by themselves, without a fault. Returns `None` exactly
 /// where two of them met the same page or object, one met the root, what they met is out of the slot's bounds, or they met another
 /// number of objects than the slot tells.
-pub fn join_parts(alloc: Global, live: &Live, parts: &[Part]) -> Result<Option<Audited>, Memory>
+pub fn join_parts(alloc: Global, live: &Live, parts: &[Part]) -> Result<Option<Audited>, AllocError>
     ensures apart { IfOk result (λ joined. MatchOption joined (AreApart live.now parts.now → ⊥) (λ a. AreApart live.now parts.now)) }
     ensures objects { IfOk result (λ joined. IfSome joined (λ a. a.objects ≡ live.now.count)) }
     ensures nodes { IfOk result (λ joined. IfSome joined (λ a. a.nodes ≡ length (live.now.root ∷ pages_met parts.now))) }

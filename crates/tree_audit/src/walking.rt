@@ -14,8 +14,8 @@ ghost use Rattle.tree_audit.specs.Visits.{seen_of, leaf_told, IsEntryFault, IsOp
 use crate::AuditFault;
 use crate::met::Met;
 use metric_laws::{Point, Ruler};
-use page_store::{Memory, PageFault, Pages, SharedNode};
-use std::alloc::Global;
+use page_store::{PageFault, Pages, SharedNode};
+use std::alloc::{AllocError, Global};
 use tree_shape::{InnerRef, LeafEntries, LeafRef, Node, fill};
 
 /// A routing entry on the way from the root.
@@ -275,7 +275,7 @@ fn arrive<P: Pages>(
 }
 
 // Makes the step to a child.
-fn step_to(alloc: Global, page: u32, place: u32, entry: InnerRef) -> Result<Step, Memory>
+fn step_to(alloc: Global, page: u32, place: u32, entry: InnerRef) -> Result<Step, AllocError>
     ensures { IfOk result (λ t. t ≡ step page place (inner_of entry.entry)) }
 {
     Ok(Step {

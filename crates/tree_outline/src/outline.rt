@@ -11,8 +11,8 @@ ghost use Rattle.log_model.specs.Counts.{entry_count};
 ghost use Rattle.tree_outline.specs.Shapes.{root_named, named_by, line_of, tree_lines, DrawsTo, IsCounted, IsDrawn};
 
 use metric_laws::{Listed, Point};
-use page_store::{Memory, PageFault, Pages};
-use std::alloc::Global;
+use page_store::{PageFault, Pages};
+use std::alloc::{AllocError, Global};
 use tree_shape::{InnerEntries, InnerRef, Live, Node};
 
 /// A node of an index's tree.
@@ -53,7 +53,7 @@ pub struct Named {
 }
 
 // Makes the node that an entry names.
-fn named_by(alloc: Global, entry: InnerRef) -> Result<Named, Memory>
+fn named_by(alloc: Global, entry: InnerRef) -> Result<Named, AllocError>
     ensures { IfOk result (λ named. named ≡ named_by (inner_of entry.entry)) }
 {
     let centre = Point::new(alloc, entry.point)?;
@@ -65,7 +65,7 @@ fn named_by(alloc: Global, entry: InnerRef) -> Result<Named, Memory>
 }
 
 // Pushes the nodes that `entries` name, the first one topmost.
-fn put_on_top(alloc: Global, coming: &mut Vec<Named>, entries: &InnerEntries) -> Result<(), Memory>
+fn put_on_top(alloc: Global, coming: &mut Vec<Named>, entries: &InnerEntries) -> Result<(), AllocError>
     ensures { OnOk result (reverse coming.new.items ≡ map named_by entries.now ++ reverse coming.old.items) }
 {
     for index in (0..entries.len()).rev() {
@@ -93,7 +93,7 @@ fn line_of(named: Named, node: &Node) -> ShapeLine
 }
 
 // Pushes the nodes that the entries of an inner node name, the first one topmost. A leaf names none.
-fn name_children(alloc: Global, coming: &mut Vec<Named>, node: &Node) -> Result<(), Memory>
+fn name_children(alloc: Global, coming: &mut Vec<Named>, node: &Node) -> Result<(), AllocError>
     ensures { OnOk result (reverse coming.new.items ≡ map named_by (inner_entries (Some node.now)) ++ reverse coming.old.items) }
 {
     match node {

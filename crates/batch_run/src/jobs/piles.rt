@@ -4,11 +4,10 @@ ghost use Rattle.std.specs.Prelude.{◌≡◌, [], IfOk, OnOk};
 ghost use Rattle.image_answers.specs.Outcomes.{CanBeShown};
 ghost use Rattle.batch_run.specs.Jobs.Preparing.{HasMore, IsShown, LiesIn};
 
-use crate::Memory;
 use answer_texts::add_texts;
 use image_answers::Outcome;
 use page_store::PageFault;
-use std::alloc::Global;
+use std::alloc::{AllocError, Global};
 
 /// What is to be put for one command.
 #[derive(Clone, Copy)]
@@ -53,7 +52,7 @@ pub struct Pile {
 
 impl Pile {
     /// Makes a pile for no commands.
-    pub fn new(alloc: Global) -> Result<Self, Memory>
+    pub fn new(alloc: Global) -> Result<Self, AllocError>
         ensures { IfOk result (λ pile. pile.marks.items ≡ []) }
     {
         Ok(Pile {
@@ -64,7 +63,7 @@ impl Pile {
     }
 
     /// Adds what is to be put for one more command, with the outcome `outcome`. A hit is written with its tag where `show` is set.
-    pub fn add(&mut self, alloc: Global, outcome: &Outcome, show: bool) -> Result<(), Memory>
+    pub fn add(&mut self, alloc: Global, outcome: &Outcome, show: bool) -> Result<(), AllocError>
         requires { CanBeShown show outcome.now }
         ensures { OnOk result (HasMore show outcome.now self.old self.new) }
     {

@@ -7,7 +7,6 @@ ghost use Rattle.image_answers.specs.Outcomes.{ArePagesOf};
 ghost use Rattle.batch_run.specs.Dealing.{IsDeal};
 ghost use Rattle.batch_run.specs.Jobs.Preparing.{ArePiles, AreShown, AreStacked, HasMoreFor, IsPileIn};
 
-use crate::Memory;
 use crate::batching::outcome_of;
 use crate::dealing::Deal;
 use crate::gathering::all_done;
@@ -35,7 +34,7 @@ fn add_for<M: Metric>(
     command: &Command,
     show: bool,
     pile: &mut Pile,
-) -> Result<(), Memory>
+) -> Result<(), AllocError>
     requires few { live.now.pages ≤ 2 ^ 24 }
     requires pages { ArePagesOf (M.space metric) live.now (bytes_in pages.old.inner.image) pages.old }
     requires readable { IsReadable (M.space metric).dimension command.now }
@@ -58,7 +57,7 @@ fn pile_of<M: Metric>(
     show: bool,
     deal: &Deal,
     worker: usize,
-) -> Result<Pile, Memory>
+) -> Result<Pile, AllocError>
     requires pages { live.now.pages ≤ 2 ^ 24 }
     requires readable { All (IsReadable (M.space metric).dimension) commands.now }
     requires deal { IsDeal (record { rounds = deal.now.rounds; workers = deal.now.workers }) }
@@ -99,14 +98,14 @@ pub fn prepare_all<R: Threads + Sync, M: Metric>(
     commands: &[Command],
     show: bool,
     deal: &Deal,
-) -> Result<Vec<Pile>, Memory>
+) -> Result<Vec<Pile>, AllocError>
     requires pages { live.now.pages ≤ 2 ^ 24 }
     requires readable { All (IsReadable (M.space metric).dimension) commands.now }
     requires deal { IsDeal (record { rounds = deal.now.rounds; workers = deal.now.workers }) }
     ensures { IfOk result (λ piles. ArePiles (M.space metric) live.now (bytes_in image.entry) show commands.now
         (record { rounds = deal.now.rounds; workers = deal.now.workers }) piles.items) }
 {
-    let work = |worker: usize| -> Result<Pile, Memory>
+    let work = |worker: usize| -> Result<Pile, AllocError>
         requires { (live.now.pages ≤ 2 ^ 24) × All (IsReadable (M.space metric).dimension) commands.now
             × IsDeal (record { rounds = deal.now.rounds; workers = deal.now.workers }) × (worker < deal.now.workers) }
         ensures { IfOk result (IsPileIn (M.space metric) live.entry.now (bytes_in image.entry) show commands.entry.now
@@ -125,7 +124,7 @@ pub fn in_turn<'a>(
     deal: &Deal,
     count: usize,
     piles: &'a [Pile],
-) -> Result<Vec<Prepared<'a>>, Memory>
+) -> Result<Vec<Prepared<'a>>, AllocError>
     requires deal { IsDeal (record { rounds = deal.now.rounds; workers = deal.now.workers }) }
     requires whole { count ≤ deal.now.rounds * deal.now.workers }
     requires stacked { AreStacked (record { rounds = deal.now.rounds; workers = deal.now.workers }) count piles.now }

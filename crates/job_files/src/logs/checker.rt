@@ -4,9 +4,8 @@ ghost use Rattle.prune_log.specs.declared.fault.LogFault.{LogFault};
 ghost use Rattle.job_files.specs.Logs.JobReports.{Words};
 
 use crate::logs::stop::LogStop;
-use outside_io::Memory;
 use prune_log::LogFault;
-use std::alloc::Global;
+use std::alloc::{AllocError, Global};
 
 /// Judges logs of one kind by the pages of files.
 pub trait Checker {
@@ -48,11 +47,11 @@ pub trait Checker {
         ensures valid { IfOk result (λ logs. All is_valid logs.items) };
 
     /// Appends the verdict `why`.
-    fn push_verdict(why: Self::Verdict, out: &mut Vec<u8>) -> Result<(), Memory>
+    fn push_verdict(why: Self::Verdict, out: &mut Vec<u8>) -> Result<(), AllocError>
         ensures { OnOk result (out.new.items ≡ out.old.items ++ words.verdict why) };
 
     /// Appends the query and the answers of `log`.
-    fn push_answers(alloc: Global, log: Self::Log, out: &mut Vec<u8>) -> Result<(), Memory>
+    fn push_answers(alloc: Global, log: Self::Log, out: &mut Vec<u8>) -> Result<(), AllocError>
         ensures { OnOk result (out.new.items ≡ out.old.items ++ words.answers log) };
 
     /// Returns the first fault of `log`, if it has one.

@@ -10,9 +10,9 @@ use crate::logs::lines::{push_frame, undecoded_text};
 use crate::logs::putting::{end_text, put};
 use crate::logs::stop::LogStop;
 use crate::logs::{Checker, Report};
-use outside_io::{Memory, Sink, Status};
+use outside_io::{Sink, Status};
 use prune_log::LogFault;
-use std::alloc::Global;
+use std::alloc::{AllocError, Global};
 
 // Makes the text on the log of frame `frame` with its first fault, or with none.
 fn frame_text<C: Checker>(
@@ -21,7 +21,7 @@ fn frame_text<C: Checker>(
     frame: u64,
     log: C::Log,
     fault: Option<C::Verdict>,
-) -> Result<Vec<u8>, Memory>
+) -> Result<Vec<u8>, AllocError>
     ensures { IfOk result (λ text. text.items ≡ frame_text C.words report frame log fault) }
 {
     let mut text = Vec::new(alloc);

@@ -5,14 +5,13 @@ ghost use Rattle.job_files.specs.Logs.Lines.{answers_text, frame, log_fault_name
 use fault_lines::{push_numbered, push_page_fault};
 use log_verify::Verdict;
 use metric_laws::Listed;
-use outside_io::Memory;
 use prune_log::LogFault;
 use rows_text::{Reply, query_text, reply_text};
 use scan_model::{Hit, Query};
-use std::alloc::Global;
+use std::alloc::{AllocError, Global};
 
 /// Appends a word, a generation and a root.
-pub fn push_state(word: &[u8], state: (u64, u32), out: &mut Vec<u8>) -> Result<(), Memory>
+pub fn push_state(word: &[u8], state: (u64, u32), out: &mut Vec<u8>) -> Result<(), AllocError>
     ensures { OnOk result (out.new.items ≡ out.old.items ++ state_text word.now state) }
 {
     push_numbered(word, state.0, out)?;
@@ -20,7 +19,7 @@ pub fn push_state(word: &[u8], state: (u64, u32), out: &mut Vec<u8>) -> Result<(
 }
 
 /// Appends why a log is rejected.
-pub fn push_verdict(why: Verdict, out: &mut Vec<u8>) -> Result<(), Memory>
+pub fn push_verdict(why: Verdict, out: &mut Vec<u8>) -> Result<(), AllocError>
     ensures { OnOk result (out.new.items ≡ out.old.items ++ verdict_text why) }
 {
     match why {
@@ -46,7 +45,7 @@ pub fn push_verdict(why: Verdict, out: &mut Vec<u8>) -> Result<(), Memory>
 }
 
 /// Appends the number of a frame.
-pub fn push_frame(number: u64, out: &mut Vec<u8>) -> Result<(), Memory>
+pub fn push_frame(number: u64, out: &mut Vec<u8>) -> Result<(), AllocError>
     ensures { OnOk result (out.new.items ≡ out.old.items ++ frame number) }
 {
     push_numbered(b"frame ", number, out)
@@ -58,7 +57,7 @@ pub fn push_answers(
     query: &Query,
     hits: Listed<Hit>,
     out: &mut Vec<u8>,
-) -> Result<(), Memory>
+) -> Result<(), AllocError>
     ensures { OnOk result (out.new.items ≡ out.old.items ++ answers_text query.now hits) }
 {
     query_text(query, out)?;

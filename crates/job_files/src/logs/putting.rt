@@ -9,8 +9,8 @@ ghost use Rattle.job_files.specs.Logs.JobReports.{end_text, file_text};
 use crate::logs::Report;
 use crate::logs::stop::LogStop;
 use crate::rejected_text;
-use outside_io::{Memory, Sink};
-use std::alloc::Global;
+use outside_io::Sink;
+use std::alloc::{AllocError, Global};
 use tree_audit::AuditFault;
 
 /// Puts a text.
@@ -37,7 +37,7 @@ pub fn end_text(report: Report, sound: bool) -> &'static [u8]
 }
 
 /// Returns the line on the file `name` with its first fault, or with none.
-pub fn file_text(alloc: Global, name: &[u8], fault: Option<AuditFault>) -> Result<Vec<u8>, Memory>
+pub fn file_text(alloc: Global, name: &[u8], fault: Option<AuditFault>) -> Result<Vec<u8>, AllocError>
     ensures { IfOk result (λ text. text.items ≡ file_text name.now fault) }
 {
     let mut text = Vec::new(alloc);
