@@ -5,7 +5,7 @@ pub use Rattle.job_files.proofs.Statuses.{neither}
 -- What a valid head says of its space.
 pub use Rattle.job_files.proofs.Spaces.{space_by_head}
 -- How an audit ends, by what its parts told.
-pub use Rattle.job_files.proofs.Ends.{no_index, rose_by_disk, told_by, audit_rose, only, none_of_three, none_of_four, is_first, audited_before, sound_before}
+pub use Rattle.job_files.proofs.Ends.{no_index, rose_by_disk, told_by, audit_rose, only, none_of_three, none_of_four, is_first, audited_before, sound_before, unopened_audits, sound_audits, rejected_audits}
 -- How the walk of an opened file's tree stops, said of the bytes before the opening.
 pub use Rattle.job_files.proofs.Shaped.{damage_before, stop_rose}
 -- Files that are not sound.

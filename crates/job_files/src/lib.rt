@@ -16,6 +16,6 @@ pub use jobs::{
 pub use limits::{MOST_INPUT, MOST_LOGS, MOST_WHOLE_PAGES};
 pub use lines::{
     FAULT_DISK, FAULT_INPUT, FAULT_LONG, FAULT_MEMORY, FAULT_NOT_EMPTY, FAULT_VERSION,
-    damaged_text, end_with, put_line, rejected_text, sound_text,
+    damaged_text, end_unread, end_with, put_line, rejected_text, sound_text,
 };
 pub use shaping::{end_at_page, shape_index, shape_opened};

@@ -1,4 +1,4 @@
-ghost use Rattle.std.specs.Prelude.{◌≡◌, ◌≢◌, ◌⊎◌, ◌++◌, ◌≤◌, OnOk, IfOk};
+ghost use Rattle.std.specs.Prelude.{◌≡◌, ◌≢◌, ◌⊎◌, ◌++◌, ◌≤◌, OnOk, IfOk, codes};
 ghost use Rattle.std.specs.Io.KnownBytes.{Appends};
 ghost use Rattle.outside_io.specs.Bytes.{AppendsPrefix};
 ghost use Rattle.outside_io.specs.Causes.{Rose};
@@ -6,7 +6,7 @@ ghost use Rattle.outside_io.specs.Sinks.{Tells};
 ghost use Rattle.job_files.specs.Lines.{audit_fault_text, damaged_text, sound_text, rejected_text};
 
 use fault_lines::{push_numbered, push_page_fault};
-use outside_io::{Sink, Status};
+use outside_io::{ReadAll, Sink, Status};
 use page_store::PageFault;
 use std::alloc::{AllocError, Global};
 use tree_audit::{AuditFault, Audited};
@@ -37,6 +37,22 @@ pub fn end_with<K: Sink>(out: &mut K, line: &[u8], status: u8) -> Status
 {
     let _ = out.put(line);
     Status(status)
+}
+
+/// Ends a job whose input was not read for the reason `why`: status 3 where it could not be read, 7 where it is too long, and 8 where
+/// memory ran out.
+pub fn end_unread<K: Sink>(why: ReadAll, out: &mut K) -> Status
+    ensures input { result.0 ≡ 3 → (why ≡ ReadAll.Fault) × Tells (K.state out.old) (K.state out.new) (codes "fault input\n") }
+    ensures long { result.0 ≡ 7 → (why ≡ ReadAll.TooLong) × Tells (K.state out.old) (K.state out.new) (codes "fault long\n") }
+    ensures memory { result.0 ≡ 8 → (why ≡ ReadAll.Memory) × Tells (K.state out.old) (K.state out.new) (codes "fault memory\n") }
+    ensures statuses { (result.0 ≡ 3) ⊎ ((result.0 ≡ 7) ⊎ (result.0 ≡ 8)) }
+    ensures later { (K.state out.old).faults ≤ (K.state out.new).faults }
+{
+    match why {
+        ReadAll::Fault => end_with(out, FAULT_INPUT, 3),
+        ReadAll::TooLong => end_with(out, FAULT_LONG, 7),
+        ReadAll::Memory => end_with(out, FAULT_MEMORY, 8),
+    }
 }
 
 /// Puts `line`, and ends with `status`, or with status 4 where it can't be written.

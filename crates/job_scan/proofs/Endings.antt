@@ -55,6 +55,15 @@ module _ (Failed : Type 0) where
     memory = λ _. line;
   }
 
+-- the script was not read, for one of the three reasons
+pub unread_writes : {A B C : Type 0} → (w0 w1 : SinkState) (texts : List (List ℕ)) (status : ℕ) → (status ≡ 3 → A × Tells w0 w1 (codes "fault input\n")) → (status ≡ 7 → B × Tells w0 w1 (codes "fault long\n"))
+    → (status ≡ 8 → C × Tells w0 w1 (codes "fault memory\n")) → (status ≡ 3) ⊎ ((status ≡ 7) ⊎ (status ≡ 8))
+    → WritesScan w0 w1 texts status
+unread_writes w0 w1 texts status input long memory statuses =
+    ⊎_elim (λ is. fault_writes w0 w1 texts status _ (input is).1 (λ rest line. input_ends _ status texts rest is line))
+    (λ others. ⊎_elim (λ is. fault_writes w0 w1 texts status _ (long is).1 (λ rest line. long_ends _ status texts rest is line))
+    (λ is. fault_writes w0 w1 texts status _ (memory is).1 (λ rest line. memory_ends _ status [] texts rest is line)) others) statuses
+
 -- the line of a memory fault after some replies
 pub stopped : (w0 w1 w2 : SinkState) (texts : List (List ℕ)) (status : ℕ) → status ≡ 8 → w0.faults ≤ w1.faults →
     Writes w0.written w1.written texts (Err stop.Memory) → Tells w1 w2 (codes "fault memory\n") → WritesScan w0 w2 texts status

@@ -10,10 +10,10 @@ ghost use Rattle.plain_scan.specs.Written.{reply_texts};
 ghost use Rattle.rows_text.specs.Script.{script};
 ghost use Rattle.job_scan.specs.Jobs.{IsScanStatus, WritesScan, scan_texts};
 
-use job_files::{FAULT_INPUT, FAULT_LONG, FAULT_MEMORY, MOST_INPUT, end_with};
+use job_files::{FAULT_MEMORY, MOST_INPUT, end_unread, end_with};
 use job_words::SpaceName;
 use metric_mix::MixSpace;
-use outside_io::{ReadAll, Sink, Source, Status, read_all};
+use outside_io::{Sink, Source, Status, read_all};
 use plain_scan::{Scan, ScanStop, run_script};
 use rows_text::read_script;
 use std::alloc::Global;
@@ -100,8 +100,6 @@ pub fn run_scan<S: Source, K: Sink>(
     };
     match read_all(alloc, input, MOST_INPUT) {
         Ok(bytes) => run_bytes(alloc, &scan, space.dim, &bytes, out),
-        Err(ReadAll::Fault) => end_with(out, FAULT_INPUT, 3),
-        Err(ReadAll::TooLong) => end_with(out, FAULT_LONG, 7),
-        Err(ReadAll::Memory) => end_with(out, FAULT_MEMORY, 8),
+        Err(why) => end_unread(why, out),
     }
 }

@@ -7,7 +7,7 @@ ghost use Rattle.job_words.specs.Valid.{IsValid};
 ghost use Rattle.mtree_cli.specs.Files.{opened_names};
 
 use job_words::{FileNames, Job, JobFault, files_of, no_files, read_job};
-use std::alloc::Global;
+use std::alloc::{AllocError, Global};
 use std::marker::Model;
 
 /// The words after the program's name, and the job that was read from them. Contracts see the texts of the words.
@@ -55,15 +55,15 @@ impl<'a> Request<'a> {
         self.job
     }
 
-    /// Returns the names of the files that the job opens. Words that are no job open none. `Memory` comes where memory ran out while the
-    /// words were read.
-    pub fn file_names(&self) -> Result<FileNames<&'a str>, JobFault>
+    /// Returns the names of the files that the job opens. Words that are no job open none. It fails where memory ran out while the words
+    /// were read.
+    pub fn file_names(&self) -> Result<FileNames<&'a str>, AllocError>
         ensures { IfOk result (λ names. file_texts names ≡ opened_names (job_of self.now)) }
     {
         match self.job() {
             Ok(job) => Ok(files_of(job)),
             Err(JobFault::Usage) => Ok(no_files()),
-            Err(JobFault::Memory) => Err(JobFault::Memory),
+            Err(JobFault::Memory) => Err(AllocError),
         }
     }
 }

@@ -1,5 +1,5 @@
 -- What a session on an index leaves and writes, by its status.
-use Rattle.std.proofs.Common.{◌≡◌, ◌≢◌, ◌⊎◌, inl, inr, ℕ, ◌+◌, ◌≤◌, Bool, List, [], ◌++◌, Option, Some, None, refl, sym, ◌∙◌, ap, subst, arith}
+use Rattle.std.proofs.Common.{◌≡◌, ◌≢◌, ◌⊎◌, inl, inr, ⊎_elim, ℕ, ◌+◌, ◌≤◌, Bool, List, [], ◌++◌, Option, Some, None, refl, sym, ◌∙◌, ap, subst, arith}
 use Rattle.std.specs.Prelude.{codes, IsTrue, MatchOption}
 use Rattle.std.specs.List.{AllByRecursion, concat}
 use Rattle.std.specs.Io.KnownBytes.{Appends, Consumes, IsAtEnd}
@@ -543,6 +543,14 @@ memory_session show input disk out0 out1 log status is told =
     unread_session show input disk out0 out1 log status (codes "fault memory\n") told (λ e. absurd (omega arith)) (λ e. absurd (omega arith)) (λ e. absurd (omega arith)) (λ e. absurd (omega arith))
     (memory_told status out0 out1 is (line_alone out0 out1 (codes "fault memory\n") told))
     (λ bytes head live rest line. memory_ends (Rose out0.faults out1.faults) _ (script head.dim bytes) rest [] status is line)
+
+-- the script was not read, for one of the three reasons
+pub not_read_session : {A B C : Type 0} → (show : Bool) (input : Option (List ℕ)) (disk : DiskState) (out0 out1 log : SinkState) (status : ℕ) → (status ≡ 3 → A × Tells out0 out1 (codes "fault input\n")) → (status ≡ 7 → B × Tells out0 out1 (codes "fault long\n"))
+    → (status ≡ 8 → C × Tells out0 out1 (codes "fault memory\n")) → (status ≡ 3) ⊎ ((status ≡ 7) ⊎ (status ≡ 8))
+    → RunsSession show input disk disk out0 out1 log log status
+not_read_session show input disk out0 out1 log status failed long memory statuses =
+    ⊎_elim (λ is. input_session show input disk out0 out1 log status is (failed is).1)
+    (λ rest. ⊎_elim (λ is. long_session show input disk out0 out1 log status is (long is).1) (λ is. memory_session show input disk out0 out1 log status is (memory is).1) rest) statuses
 
 -- ---- a script that was read whole
 

@@ -19,13 +19,13 @@ use bulk_load::Crew;
 use disk_model::Disk;
 use index_core::Index;
 use job_files::{
-    FAULT_DISK, FAULT_INPUT, FAULT_LONG, FAULT_MEMORY, MOST_INPUT, damaged_text, end_with,
+    FAULT_DISK, FAULT_MEMORY, MOST_INPUT, damaged_text, end_unread, end_with,
     open_index, space_of,
 };
 use metric_laws::Metric;
 use metric_mix::MixSpace;
 use node_page::laws::{fault_is_not_open, one_live_slot};
-use outside_io::{ReadAll, Sink, Source, Status, read_all};
+use outside_io::{Sink, Source, Status, read_all};
 use page_cache::KEPT_NODES;
 use std::alloc::Global;
 
@@ -198,8 +198,6 @@ pub fn run_session<W: Crew<MixSpace>, D: Disk, S: Source, K: Sink, T: Sink>(
             out,
             log_out,
         ),
-        Err(ReadAll::Fault) => end_with(out, FAULT_INPUT, 3),
-        Err(ReadAll::TooLong) => end_with(out, FAULT_LONG, 7),
-        Err(ReadAll::Memory) => end_with(out, FAULT_MEMORY, 8),
+        Err(why) => end_unread(why, out),
     }
 }

@@ -1,5 +1,5 @@
 -- A batch whose script was read, or was not.
-use Rattle.std.proofs.Common.{◌≡◌, ◌≢◌, ℕ, Bool, List, [], refl, subst, arith, Option, Some, None}
+use Rattle.std.proofs.Common.{◌≡◌, ◌≢◌, ◌⊎◌, ⊎_elim, ℕ, Bool, List, [], refl, subst, arith, Option, Some, None}
 use Rattle.std.specs.Prelude.{codes, IfSome}
 use Rattle.std.specs.Io.KnownBytes.{Consumes, IsAtEnd}
 use Rattle.outside_io.specs.Sinks.{SinkState, Tells}
@@ -50,3 +50,9 @@ module _ (show : Bool) (input : Option (List ℕ)) (disk : DiskState) (out0 out1
 
   pub out_of_memory : status ≡ 8 → Tells out0 out1 (codes "fault memory\n") → RunsBatch show input disk disk out0 out1 log log status
   out_of_memory is told = only_line 8 is (omega arith) (omega arith) (omega arith) (omega arith) (omega arith) (memory_told status out0 out1 is (line_alone out0 out1 (codes "fault memory\n") told)) (λ bytes. memory_line show bytes disk out0 out1 log status is told)
+
+  -- the script was not read, for one of the three reasons
+  pub unread : {A B C : Type 0} → (status ≡ 3 → A × Tells out0 out1 (codes "fault input\n")) → (status ≡ 7 → B × Tells out0 out1 (codes "fault long\n"))
+      → (status ≡ 8 → C × Tells out0 out1 (codes "fault memory\n")) → (status ≡ 3) ⊎ ((status ≡ 7) ⊎ (status ≡ 8))
+      → RunsBatch show input disk disk out0 out1 log log status
+  unread input long memory statuses = ⊎_elim (λ is. input_failed is (input is).1) (λ rest. ⊎_elim (λ is. too_long is (long is).1) (λ is. out_of_memory is (memory is).1) rest) statuses

@@ -20,13 +20,13 @@ use crate::laws::images_hold_the_file;
 use crate::{ImageFault, read_parts};
 use disk_model::SharedDisk;
 use job_files::{
-    FAULT_DISK, FAULT_INPUT, FAULT_LONG, FAULT_MEMORY, MOST_INPUT, end_at_page, end_with,
+    FAULT_DISK, FAULT_LONG, FAULT_MEMORY, MOST_INPUT, end_at_page, end_unread, end_with,
     open_index, space_of,
 };
 use metric_laws::Metric;
 use node_page::Head;
 use node_page::laws::{fault_is_not_open, one_live_slot};
-use outside_io::{ReadAll, Sink, Source, Status, read_all};
+use outside_io::{Sink, Source, Status, read_all};
 use page_store::Image;
 use rows_text::read_script;
 use std::alloc::Global;
@@ -110,7 +110,7 @@ fn run_on_image<R: Threads + Sync, K: Sink, T: Sink>(
 }
 
 // Ends a batch whose index was not read into memory.
-fn end_unread<K: Sink>(fault: ImageFault, out: &mut K) -> Status
+fn end_without_image<K: Sink>(fault: ImageFault, out: &mut K) -> Status
     ensures long { result.0 ≡ 7 → (fault ≡ ImageFault.TooLong) × Tells (K.state out.old) (K.state out.new) (codes "fault long\n") }
     ensures disk { result.0 ≡ 5 → (fault ≡ ImageFault.Disk) × Tells (K.state out.old) (K.state out.new) (codes "fault disk\n") }
     ensures memory { result.0 ≡ 8 → Tells (K.state out.old) (K.state out.new) (codes "fault memory\n") }
@@ -150,7 +150,7 @@ fn run_on_index<R: Threads + Sync, D: SharedDisk, K: Sink, T: Sink>(
     };
     let parts = match read_parts(rt, alloc, index, live.pages, task.workers) {
         Ok(parts) => parts,
-        Err(fault) => return end_unread(fault, out),
+        Err(fault) => return end_without_image(fault, out),
     };
     let image = Image::InParts(&parts);
     run_on_image(rt, alloc, image, &head, &live, task, out, log_out)
@@ -201,8 +201,6 @@ pub fn run_batch<R: Threads + Sync, D: SharedDisk, S: Source, K: Sink, T: Sink>(
             };
             run_on_index(rt, alloc, index, &task, out, log_out)
         }
-        Err(ReadAll::Fault) => end_with(out, FAULT_INPUT, 3),
-        Err(ReadAll::TooLong) => end_with(out, FAULT_LONG, 7),
-        Err(ReadAll::Memory) => end_with(out, FAULT_MEMORY, 8),
+        Err(why) => end_unread(why, out),
     }
 }

@@ -4,8 +4,8 @@ ghost use Rattle.outside_io.specs.Causes.{Rose};
 ghost use Rattle.job_files.specs.Logs.Jobs.{EndsUnread, Stops, TakesLogs};
 
 use crate::logs::stop::LogStop;
-use crate::{FAULT_DISK, FAULT_INPUT, FAULT_LONG, FAULT_MEMORY, MOST_LOGS, end_with};
-use outside_io::{ReadAll, Sink, Source, Status, read_all};
+use crate::{FAULT_DISK, FAULT_MEMORY, MOST_LOGS, end_unread, end_with};
+use outside_io::{Sink, Source, Status, read_all};
 use std::alloc::Global;
 
 /// Reads the bytes of logs. Otherwise writes why there are none, and returns the status: 3 where they could not be read, 7 where
@@ -25,9 +25,7 @@ pub fn read_logs<S: Source, K: Sink>(
 {
     match read_all(alloc, log_in, MOST_LOGS) {
         Ok(bytes) => Ok(bytes),
-        Err(ReadAll::Fault) => Err(end_with(out, FAULT_INPUT, 3)),
-        Err(ReadAll::TooLong) => Err(end_with(out, FAULT_LONG, 7)),
-        Err(ReadAll::Memory) => Err(end_with(out, FAULT_MEMORY, 8)),
+        Err(why) => Err(end_unread(why, out)),
     }
 }
 

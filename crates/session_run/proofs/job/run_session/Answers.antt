@@ -1,21 +1,11 @@
 use Rattle.std.proofs.Common.{◌∙◌}
-use Rattle.session_run.proofs.Jobs.{input_session, long_session, memory_session, ran_complete, ran_session}
+use Rattle.session_run.proofs.Jobs.{not_read_session, ran_complete, ran_session}
 use Rattle.session_run.proofs.job.run_session.Goals as goal
 
-pub returns-in-Err-Fault-clause-runs : goal.returns-in-Err-Fault-clause-runs
-returns-in-Err-Fault-clause-runs g c =
-    input_session c.args.show_tags (g.S.Source.left c.args.input.now) (g.D.Disk.state c.args.index.now) (g.K.Sink.state c.args.out.now) (g.K.Sink.state c.end_with.new.out) (g.T.Sink.state c.args.log_out.now)
-    c.end_with.result.0 c.end_with.ensures.status c.end_with.ensures.line
-
-pub returns-in-Err-TooLong-clause-runs : goal.returns-in-Err-TooLong-clause-runs
-returns-in-Err-TooLong-clause-runs g c =
-    long_session c.args.show_tags (g.S.Source.left c.args.input.now) (g.D.Disk.state c.args.index.now) (g.K.Sink.state c.args.out.now) (g.K.Sink.state c.end_with-in-Err-TooLong.new.out)
-    (g.T.Sink.state c.args.log_out.now) c.end_with-in-Err-TooLong.result.0 c.end_with-in-Err-TooLong.ensures.status c.end_with-in-Err-TooLong.ensures.line
-
-pub returns-in-Err-Memory-clause-runs : goal.returns-in-Err-Memory-clause-runs
-returns-in-Err-Memory-clause-runs g c =
-    memory_session c.args.show_tags (g.S.Source.left c.args.input.now) (g.D.Disk.state c.args.index.now) (g.K.Sink.state c.args.out.now) (g.K.Sink.state c.end_with-in-Err-Memory.new.out)
-    (g.T.Sink.state c.args.log_out.now) c.end_with-in-Err-Memory.result.0 c.end_with-in-Err-Memory.ensures.status c.end_with-in-Err-Memory.ensures.line
+pub returns-in-Err-clause-runs : goal.returns-in-Err-clause-runs
+returns-in-Err-clause-runs g c =
+    not_read_session c.args.show_tags (g.S.Source.left c.args.input.now) (g.D.Disk.state c.args.index.now) (g.K.Sink.state c.args.out.now) (g.K.Sink.state c.end_unread.new.out)
+    (g.T.Sink.state c.args.log_out.now) c.end_unread.result.0 c.end_unread.ensures.input c.end_unread.ensures.long c.end_unread.ensures.memory c.end_unread.ensures.statuses
 
 pub returns-in-Ok-clause-runs : goal.returns-in-Ok-clause-runs
 returns-in-Ok-clause-runs g c =

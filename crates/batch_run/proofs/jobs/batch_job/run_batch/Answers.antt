@@ -1,4 +1,4 @@
-use Rattle.batch_run.proofs.jobs.Whole.{input_failed, out_of_memory, too_long, whole}
+use Rattle.batch_run.proofs.jobs.Whole.{unread, whole}
 use Rattle.batch_run.proofs.jobs.batch_job.run_batch.Goals as goal
 
 pub returns-in-Ok-clause-runs : goal.returns-in-Ok-clause-runs
@@ -7,17 +7,7 @@ returns-in-Ok-clause-runs g c =
     (g.K.Sink.state c.args.out.now) (g.K.Sink.state c.run_on_index.new.out) (g.T.Sink.state c.args.log_out.now) (g.T.Sink.state c.run_on_index.new.log_out) c.run_on_index.result.0
     (rw c.deref.ensures.value c.in-Ok.ensures.ok) c.in-Ok.ensures.end c.run_on_index.ensures.opened
 
-pub returns-in-Err-Fault-clause-runs : goal.returns-in-Err-Fault-clause-runs
-returns-in-Err-Fault-clause-runs g c =
-    input_failed c.args.show_tags (g.S.Source.left c.args.input.now) (g.D.Disk.state c.args.index.now) (g.K.Sink.state c.args.out.now) (g.K.Sink.state c.end_with.new.out) (g.T.Sink.state c.args.log_out.now)
-    c.end_with.result.0 c.end_with.ensures.status c.end_with.ensures.line
-
-pub returns-in-Err-TooLong-clause-runs : goal.returns-in-Err-TooLong-clause-runs
-returns-in-Err-TooLong-clause-runs g c =
-    too_long c.args.show_tags (g.S.Source.left c.args.input.now) (g.D.Disk.state c.args.index.now) (g.K.Sink.state c.args.out.now) (g.K.Sink.state c.end_with-in-Err-TooLong.new.out) (g.T.Sink.state c.args.log_out.now)
-    c.end_with-in-Err-TooLong.result.0 c.end_with-in-Err-TooLong.ensures.status c.end_with-in-Err-TooLong.ensures.line
-
-pub returns-in-Err-Memory-clause-runs : goal.returns-in-Err-Memory-clause-runs
-returns-in-Err-Memory-clause-runs g c =
-    out_of_memory c.args.show_tags (g.S.Source.left c.args.input.now) (g.D.Disk.state c.args.index.now) (g.K.Sink.state c.args.out.now) (g.K.Sink.state c.end_with-in-Err-Memory.new.out)
-    (g.T.Sink.state c.args.log_out.now) c.end_with-in-Err-Memory.result.0 c.end_with-in-Err-Memory.ensures.status c.end_with-in-Err-Memory.ensures.line
+pub returns-in-Err-clause-runs : goal.returns-in-Err-clause-runs
+returns-in-Err-clause-runs g c =
+    unread c.args.show_tags (g.S.Source.left c.args.input.now) (g.D.Disk.state c.args.index.now) (g.K.Sink.state c.args.out.now) (g.K.Sink.state c.end_unread.new.out) (g.T.Sink.state c.args.log_out.now)
+    c.end_unread.result.0 c.end_unread.ensures.input c.end_unread.ensures.long c.end_unread.ensures.memory c.end_unread.ensures.statuses

@@ -9,9 +9,9 @@ returns-in-Err-clause-opened g c =
 pub returns-in-Err-read_parts-clause-opened : goal.returns-in-Err-read_parts-clause-opened
 returns-in-Err-read_parts-clause-opened g c =
     unread_image c.args.task.now.show_tags c.args.task.now.bytes.now (g.D.Disk.state c.args.index.now) (g.D.Disk.state c.open_index.new.disk) (g.D.Disk.state c.read_parts.new.disk) c.in-Ok.opened.0 c.in-Ok.opened.1
-    c.in-Ok.ensures.same c.in-Ok.ensures.later c.in-Ok.ensures.opens c.in-Ok.ensures.version c.in-Err-read_parts.ensures.same (g.K.Sink.state c.args.out.now) (g.K.Sink.state c.end_unread.new.out) (g.T.Sink.state c.args.log_out.now)
-    c.end_unread.result.0 c.in-Err-read_parts.fault c.in-Err-read_parts.ensures.cause (rw c.in-Ok.ensures.silent at c.end_unread.ensures.long) (rw c.in-Ok.ensures.silent at c.end_unread.ensures.disk)
-    (rw c.in-Ok.ensures.silent at c.end_unread.ensures.memory) c.end_unread.ensures.statuses
+    c.in-Ok.ensures.same c.in-Ok.ensures.later c.in-Ok.ensures.opens c.in-Ok.ensures.version c.in-Err-read_parts.ensures.same (g.K.Sink.state c.args.out.now) (g.K.Sink.state c.end_without_image.new.out) (g.T.Sink.state c.args.log_out.now)
+    c.end_without_image.result.0 c.in-Err-read_parts.fault c.in-Err-read_parts.ensures.cause (rw c.in-Ok.ensures.silent at c.end_without_image.ensures.long) (rw c.in-Ok.ensures.silent at c.end_without_image.ensures.disk)
+    (rw c.in-Ok.ensures.silent at c.end_without_image.ensures.memory) c.end_without_image.ensures.statuses
 
 pub returns-clause-opened : goal.returns-clause-opened
 returns-clause-opened g c =
