@@ -118,13 +118,11 @@ pub fn in_order<X: Drop>(
 
 /// Runs the work at each place below `count` and returns the results in order, or fails when memory runs out at one of them. Each
 /// worker gets places from all parts of the work, so that none waits long for the others.
-pub fn share_evenly<R: Threads + Sync, X: Send + Drop, F: Fn(usize) -> Result<X, AllocError> + Sync>(
-    rt: &R,
-    alloc: Global,
-    count: usize,
-    workers: usize,
-    work: &F,
-) -> Result<Vec<X>, AllocError>
+pub fn share_evenly<
+    R: Threads + Sync,
+    X: Send + Drop,
+    F: Fn(usize) -> Result<X, AllocError> + Sync,
+>(rt: &R, alloc: Global, count: usize, workers: usize, work: &F) -> Result<Vec<X>, AllocError>
     requires calls { (i : ℕ) → i < count → F.pre work.now i }
     requires some { 1 ≤ workers }
     requires few { workers ≤ 64 }

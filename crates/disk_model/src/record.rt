@@ -75,7 +75,12 @@ impl Record {
 }
 
 // Replays the entries that have begun, and returns the image.
-fn play(entries: &[Entry], bytes: &[u8], mut replay: Replay, moment: u64) -> Result<Vec<u8>, AllocError>
+fn play(
+    entries: &[Entry],
+    bytes: &[u8],
+    mut replay: Replay,
+    moment: u64,
+) -> Result<Vec<u8>, AllocError>
     requires { total entries.now ≡ length bytes.now }
     ensures { IfOk result (λ file. (kept : Kept) → IsReplay replay kept
         → file.items ≡ shown replay.pick (replayed kept (begun moment (past_of entries.now bytes.now)))) }

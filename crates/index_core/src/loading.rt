@@ -12,10 +12,10 @@ ghost use Rattle.index_core.specs.Index.{AreSpare, IsValidFree, MayGoOn};
 ghost use Rattle.index_core.specs.Loading.{HasLoadCause, HasLoadingCause, build_fault, ids, load_fault};
 ghost use Rattle.index_core.specs.Writing.{HasWritten, IsNumberedFor, IsPlacedFor, IsPlacedOn, Loads};
 
+use crate::IndexFault;
 use crate::index::Index;
 use crate::placing::Placement;
 use crate::view::View;
-use crate::IndexFault;
 use bulk_load::{BuildFault, Crew, build};
 use disk_model::Disk;
 use free_pages::Free;

@@ -12,9 +12,9 @@ ghost use Rattle.index_core.specs.Files.{StandsOn, IsValidFile, OnlyReads, nodes
 ghost use Rattle.index_core.specs.Causes.{HasReaderCause};
 ghost use Rattle.index_core.specs.Answers.{HasSearched, IsFoundOn, HasRangeCause, HasReachCause, HasDrawn};
 
+use crate::IndexFault;
 use crate::faults::answer_of;
 use crate::lending::Lent;
-use crate::IndexFault;
 use disk_model::Disk;
 use log_model::Found;
 use metric_laws::{Meter, Metric};

@@ -12,7 +12,11 @@ use std::alloc::{AllocError, Global};
 use tree_shape::{LeafEntry, Live, Node};
 
 // Appends the objects of a node; an inner node has none.
-fn push_objects(alloc: Global, node: SharedNode, found: &mut Vec<LeafEntry>) -> Result<(), AllocError>
+fn push_objects(
+    alloc: Global,
+    node: SharedNode,
+    found: &mut Vec<LeafEntry>,
+) -> Result<(), AllocError>
     ensures { OnOk result (found.new.items ≡ found.old.items ++ leaf_entries (Some node)) }
 {
     match node.into_value(alloc)? {

@@ -49,7 +49,12 @@ fn push_reach(reach: Reach, out: &mut Vec<u8>) -> Result<(), AllocError>
 }
 
 // Appends the centre test of an entry after `word`.
-fn push_centre_test(word: &[u8], dist: u64, reach: Reach, out: &mut Vec<u8>) -> Result<(), AllocError>
+fn push_centre_test(
+    word: &[u8],
+    dist: u64,
+    reach: Reach,
+    out: &mut Vec<u8>,
+) -> Result<(), AllocError>
     ensures { OnOk result (out.new.items ≡ out.old.items ++ (word.now ++ test_text (decimal dist) dist reach)) }
 {
     let radius = radius_or_zero(reach.radius);

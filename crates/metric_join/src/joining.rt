@@ -17,7 +17,13 @@ use std::alloc::{AllocError, Global};
 use tree_shape::Live;
 
 // Makes the answer of a whole walk.
-fn joined_of(alloc: Global, ll: &Live, lr: &Live, r: u64, walk: JoinWalk) -> Result<Joined, AllocError>
+fn joined_of(
+    alloc: Global,
+    ll: &Live,
+    lr: &Live,
+    r: u64,
+    walk: JoinWalk,
+) -> Result<Joined, AllocError>
     ensures left { IfOk result (λ joined. joined.log.left ≡ (ll.now.generation, ll.now.root)) }
     ensures right { IfOk result (λ joined. joined.log.right ≡ (lr.now.generation, lr.now.root)) }
     ensures radius { IfOk result (λ joined. joined.log.r ≡ r) }

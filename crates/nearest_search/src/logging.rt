@@ -99,7 +99,12 @@ fn take_seen(
 
 /// Walks over what is kept of the opened pages, with the least marks at the final radius `rho`. No page is read and no distance is
 /// computed.
-pub fn rebuild_log(alloc: Global, rho: u64, live: &Live, kept: &Kept) -> Result<Traversal, AllocError>
+pub fn rebuild_log(
+    alloc: Global,
+    rho: u64,
+    live: &Live,
+    kept: &Kept,
+) -> Result<Traversal, AllocError>
     requires { KeepsFew (kept_seen kept.now) }
     ensures { IfOk result (λ walk. IsRebuiltLog rho (kept_seen kept.now) live.now walk.records.items walk.hits.items) }
 {

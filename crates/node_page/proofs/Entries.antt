@@ -7,49 +7,25 @@ use Rattle.tree_shape.specs.Flat.{wide, start_of, leaf_from, inner_from}
 use Rattle.tree_shape.specs.declared.entry.LeafEntry.{LeafEntry}
 use Rattle.node_page.specs.Bytes.{number_at}
 use Rattle.node_page.specs.declared.node.Version.TheVariants.{First}
-use Rattle.node_page.specs.Nodes.{AreNumbers, AreNumbersFrom, firsts, point_at, place_in, place_of, leaf_at, leaf_in, inner_at}
+use Rattle.node_page.specs.Nodes.{AreNumbers, firsts, point_at, place_in, place_of, leaf_at, leaf_in, inner_at}
 use Rattle.node_page.proofs.Listing.{firsts_none, firsts_by, firsts_same, place-firsts}
 use Rattle.node_page.proofs.Numbers.{number_got}
 use Rattle.node_page.proofs.Putting.{leaf_by, inner_by}
 
--- what is read of a page from a number on are its numbers from there
-pub numbers_read : (from count : ℕ) (page numbers : List ℕ) → 16 + 4 * (from + count) ≤ 4096 → 4096 ≤ length page → length numbers ≡ count →
-    IsRead big_number 4 (take (4 * count) (drop (16 + 4 * from) page)) numbers → AreNumbersFrom from page numbers
-numbers_read from count page numbers within whole long read =
-    sym (take_all (length numbers) numbers (omega arith)) ∙ firsts_by (λ j. number_at (16 + 4 * (from + j)) 4 page) (length numbers) numbers (omega arith) (λ k below. place k below)
+-- what is read of a page behind its front are its numbers
+pub numbers_read : (count : ℕ) (page numbers : List ℕ) → 16 + 4 * count ≤ 4096 → 4096 ≤ length page → length numbers ≡ count →
+    IsRead big_number 4 (take (4 * count) (drop 16 page)) numbers → AreNumbers page numbers
+numbers_read count page numbers within whole long read =
+    sym (take_all (length numbers) numbers (omega arith)) ∙ firsts_by (λ j. number_at (16 + 4 * j) 4 page) (length numbers) numbers (omega arith) (λ k below. place k below)
   where
-    place : (k : ℕ) → k < length numbers → get_or numbers k 0 ≡ number_at (16 + 4 * (from + k)) 4 page
+    place : (k : ℕ) → k < length numbers → get_or numbers k 0 ≡ number_at (16 + 4 * k) 4 page
     place k below =
         let rest : 4 * count ≡ 4 * k + (4 * count - 4 * k) = omega arith in
-        let at : 16 + 4 * from + 4 * k ≡ 16 + 4 * (from + k) = omega arith in
-        number_got 4 (16 + 4 * (from + k)) (4 * count - 4 * k) (get_or numbers k 0) page
-        (read k below ∙ ap (λ (n : ℕ). big_number 4 (drop (4 * k) (take n (drop (16 + 4 * from) page)))) rest
-        ∙ ap (big_number 4) (drop-take (4 * k) (4 * count - 4 * k) (drop (16 + 4 * from) page))
-        ∙ ap (λ (xs : List ℕ). big_number 4 (take (4 * count - 4 * k) xs)) (drop-drop (4 * k) (16 + 4 * from) page)
-        ∙ ap (λ (n : ℕ). big_number 4 (take (4 * count - 4 * k) (drop n page))) at)
+        number_got 4 (16 + 4 * k) (4 * count - 4 * k) (get_or numbers k 0) page
+        (read k below ∙ ap (λ (n : ℕ). big_number 4 (drop (4 * k) (take n (drop 16 page)))) rest
+        ∙ ap (big_number 4) (drop-take (4 * k) (4 * count - 4 * k) (drop 16 page))
+        ∙ ap (λ (xs : List ℕ). big_number 4 (take (4 * count - 4 * k) xs)) (drop-drop (4 * k) 16 page))
         (omega arith) (omega arith)
-
--- none are read yet
-pub numbers_none : (page : List ℕ) → AreNumbers page []
-numbers_none page = sym (firsts_none (λ j. number_at (16 + 4 * j) 4 page))
-
--- those that follow
-pub numbers_more : (page numbers block : List ℕ) → AreNumbers page numbers → AreNumbersFrom (length numbers) page block → AreNumbers page (numbers ++ block)
-numbers_more page numbers block so_far then =
-    sym (take_all (length (numbers ++ block)) (numbers ++ block) (omega arith))
-    ∙ firsts_by (λ j. number_at (16 + 4 * j) 4 page) (length (numbers ++ block)) (numbers ++ block) (omega arith) (λ k below. place k below)
-  where
-    place : (k : ℕ) → k < length (numbers ++ block) → get_or (numbers ++ block) k 0 ≡ number_at (16 + 4 * k) 4 page
-    place k below = elim (cases_lt k (length numbers)) [
-      | inl lt ↦ get_or_append_left numbers block 0 k lt ∙ ap (λ (l : List ℕ). get_or l k 0) so_far ∙ place-firsts (λ j. number_at (16 + 4 * j) 4 page) (length numbers) k 0 lt
-      | inr le ↦
-          (let e : k ≡ length numbers + (k - length numbers) = omega arith in
-          let within : k - length numbers < length block = omega (arith, below, length-append numbers block) in
-          ap (λ (m : ℕ). get_or (numbers ++ block) m 0) e ∙ get_or-append-add numbers block (k - length numbers) 0
-          ∙ ap (λ (l : List ℕ). get_or l (k - length numbers) 0) then
-          ∙ place-firsts (λ j. number_at (16 + 4 * (length numbers + j)) 4 page) (length block) (k - length numbers) 0 within
-          ∙ ap (λ (m : ℕ). number_at (16 + 4 * m) 4 page) (sym e))
-    ]
 
 -- a number of eight bytes is two of four
 number_split : (at : ℕ) (page : List ℕ) → number_at at 8 page ≡ number_at at 4 page * 2 ^ 32 + number_at (at + 4) 4 page

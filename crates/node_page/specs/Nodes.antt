@@ -21,10 +21,6 @@ unfoldable pub all_of : (ℕ → Bool) → ℕ → Bool
 all_of f zero = true
 all_of f (suc n) = all_of f n && f n
 
--- each of `numbers` is the number of four bytes at its place from number `from` behind the front of the page on
-abbrev pub AreNumbersFrom : ℕ → List ℕ → List ℕ → Type 0
-AreNumbersFrom from page numbers = numbers ≡ firsts (λ j. number_at (16 + 4 * (from + j)) 4 page) (length numbers)
-
 -- each of `numbers` is the number of four bytes at its place behind the front of the page
 abbrev pub AreNumbers : List ℕ → List ℕ → Type 0
 AreNumbers page numbers = numbers ≡ firsts (λ j. number_at (16 + 4 * j) 4 page) (length numbers)

@@ -4,7 +4,7 @@ ghost use Rattle.node_page.specs.declared.node.Unread.TheVariants.{Memory};
 ghost use Rattle.tree_shape.specs.Flat.{firsts};
 ghost use Rattle.tree_shape.specs.Entries.{flat_leaves, flat_inners};
 ghost use Rattle.node_page.specs.declared.node.Version.TheVariants.{First};
-ghost use Rattle.node_page.specs.Nodes.{AreNumbers, AreNumbersFrom, SpellsIn, IsUnread, IsValidNode, parent_place, leaf_in, leaf_at, inner_at, place_of, place_in, count_of, near_at, are_near, is_count, is_rest_zero, fault_in, node_in};
+ghost use Rattle.node_page.specs.Nodes.{AreNumbers, SpellsIn, IsUnread, IsValidNode, parent_place, leaf_in, leaf_at, inner_at, place_of, place_in, count_of, near_at, are_near, is_count, is_rest_zero, fault_in, node_in};
 
 use crate::bytes::{are_zero, get_u16, get_u32, get_u64};
 use byteorder::{BigEndian, ByteOrder};
@@ -68,8 +68,11 @@ const DISTANCE: usize = 8;
 /// The numbers of four bytes of a leaf entry of the first version before its coordinates.
 const OLD_BEFORE: usize = 3;
 
-/// How many numbers of four bytes are read at once.
-const BLOCK: usize = 256;
+/// The most numbers of four bytes of a page's entries.
+const MOST_NUMBERS: usize = 1020;
+
+/// Numbers that make a list longer.
+const ZEROS: [u32; MOST_NUMBERS] = [0; MOST_NUMBERS];
 
 // Returns the number of bytes of an entry before its parent distance. The coordinates follow that.
 fn parent_place(version: Version, leaf: bool) -> usize
@@ -178,48 +181,52 @@ fn fault_of(page: &[u8; 4096], dim: u8, version: Version) -> Option<NodeFault>
     None
 }
 
-// Reads the numbers of four bytes in `page` from number `from` behind the front on.
-fn read_numbers(page: &[u8; 4096], from: usize, numbers: &mut [u32])
-    requires { 16 + 4 * (from + length numbers.old) ≤ 4096 }
-    ensures numbers { AreNumbersFrom from page.now numbers.new }
+// Returns a list of `count` numbers, whatever they are: `spare`, cut or made longer.
+fn of_length(spare: Vec<u32>, count: usize) -> Result<Vec<u32>, AllocError>
+    requires { count ≤ 1020 }
+    ensures { IfOk result (λ numbers. length numbers.items ≡ count) }
+{
+    let mut numbers = spare;
+    numbers.truncate(count);
+    let missing = count - numbers.len();
+    numbers.extend_from_slice(&ZEROS[..missing])?;
+    Ok(numbers)
+}
+
+// Reads the first numbers of four bytes of the entries.
+fn read_numbers(page: &[u8; 4096], numbers: &mut [u32])
+    requires { 16 + 4 * length numbers.old ≤ 4096 }
+    ensures numbers { AreNumbers page.now numbers.new }
     ensures len { length numbers.new ≡ length numbers.old }
 {
     // One loop over all of them, which LLVM makes wide.
-    let at = ENTRIES + 4 * from;
-    BigEndian::read_u32_into(&page[at..at + 4 * numbers.len()], numbers);
+    BigEndian::read_u32_into(&page[ENTRIES..ENTRIES + 4 * numbers.len()], numbers);
 }
 
-// Returns the first `count` numbers of four bytes of the entries.
-// They are read a block at a time, so that only one block is cleared before it is written.
-fn numbers_of(alloc: Global, page: &[u8; 4096], count: usize) -> Result<Vec<u32>, AllocError>
+// Returns the first `count` numbers of four bytes of the entries, in the memory of `spare`.
+fn numbers_of(page: &[u8; 4096], count: usize, spare: Vec<u32>) -> Result<Vec<u32>, AllocError>
     requires { 16 + 4 * count ≤ 4096 }
     ensures numbers { IfOk result (λ numbers. AreNumbers page.now numbers.items) }
     ensures len { IfOk result (λ numbers. length numbers.items ≡ count) }
 {
-    let mut numbers = Vec::with_capacity(alloc, count)?;
-    let mut block = [0; BLOCK];
-    while numbers.len() < count {
-        let from = numbers.len();
-        let part = &mut block[..BLOCK.min(count - from)];
-        read_numbers(page, from, part);
-        numbers.extend_from_slice(part)?;
-    }
+    let mut numbers = of_length(spare, count)?;
+    read_numbers(page, &mut numbers);
     Ok(numbers)
 }
 
 // Reads the entries of an inner node, or of a leaf of the second version: both have the same fields.
 fn flat_entries(
-    alloc: Global,
     page: &[u8; 4096],
     dim: u8,
     count: usize,
+    spare: Vec<u32>,
 ) -> Result<FlatEntries, AllocError>
     requires few { dim ≤ 64 }
     requires most { count ≤ most_for dim }
     ensures leaves { IfOk result (λ flat. flat_leaves flat ≡ firsts (λ i. leaf_at dim page.now (place_of dim i)) count) }
     ensures inners { IfOk result (λ flat. flat_inners flat ≡ firsts (λ i. inner_at dim page.now (place_of dim i)) count) }
 {
-    let numbers = numbers_of(alloc, page, FlatEntries::width(dim) * count)?;
+    let numbers = numbers_of(page, FlatEntries::width(dim) * count, spare)?;
     Ok(FlatEntries::new(numbers, dim, count))
 }
 
@@ -229,13 +236,14 @@ fn old_leaves(
     page: &[u8; 4096],
     dim: u8,
     count: usize,
+    spare: Vec<u32>,
 ) -> Result<Vec<LeafEntry>, AllocError>
     requires few { dim ≤ 64 }
     requires most { count ≤ most_for dim }
     ensures { IfOk result (λ es. es.items ≡ firsts (λ i. leaf_in First dim page.now (place_in First true dim i)) count) }
 {
     let long = usize::from(dim);
-    let numbers = numbers_of(alloc, page, (OLD_BEFORE + long) * count)?;
+    let numbers = numbers_of(page, (OLD_BEFORE + long) * count, spare)?;
     let numbers = ArcSlice::from_vec(numbers)?;
     let mut entries = Vec::with_capacity(alloc, count)?;
     for index in 0..count {
@@ -259,20 +267,27 @@ fn leaf_entries(
     dim: u8,
     version: Version,
     count: usize,
+    spare: Vec<u32>,
 ) -> Result<LeafEntries, AllocError>
     requires few { dim ≤ 64 }
     requires most { count ≤ most_for dim }
     ensures { IfOk result (λ es. es ≡ firsts (λ i. leaf_in version dim page.now (place_in version true dim i)) count) }
 {
     match version {
-        Version::First => Ok(LeafEntries::new(old_leaves(alloc, page, dim, count)?)),
-        Version::Second => Ok(LeafEntries::flat(flat_entries(alloc, page, dim, count)?)),
+        Version::First => Ok(LeafEntries::new(old_leaves(alloc, page, dim, count, spare)?)),
+        Version::Second => Ok(LeafEntries::flat(flat_entries(page, dim, count, spare)?)),
     }
 }
 
 // Reads the node of a page that has no fault.
 #[tactic(auto, unfolding(crate::specs::Nodes::node_in))]
-fn node_in(alloc: Global, page: &[u8; 4096], dim: u8, version: Version) -> Result<Node, AllocError>
+fn node_in(
+    alloc: Global,
+    page: &[u8; 4096],
+    dim: u8,
+    version: Version,
+    spare: Vec<u32>,
+) -> Result<Node, AllocError>
     requires few { dim ≤ 64 }
     requires most { count_of page.now ≤ most_for dim }
     ensures { IfOk result (λ node. node ≡ node_in version dim page.now) }
@@ -280,20 +295,22 @@ fn node_in(alloc: Global, page: &[u8; 4096], dim: u8, version: Version) -> Resul
     let count = count_of(page);
     let level = page[0];
     if level == 0 {
-        let entries = leaf_entries(alloc, page, dim, version, count)?;
+        let entries = leaf_entries(alloc, page, dim, version, count, spare)?;
         return Ok(Node::Leaf(entries));
     }
-    let entries = InnerEntries::flat(flat_entries(alloc, page, dim, count)?);
+    let entries = InnerEntries::flat(flat_entries(page, dim, count, spare)?);
     Ok(Node::Inner { level, entries })
 }
 
 /// Reads a node over points of `dim` coordinates from a page of a file of `version`, or names the page's first fault in the order of
-/// `NodeFault`. A page of zeros is an empty leaf. In a leaf of the first version the tag of an object is its id.
+/// `NodeFault`. A page of zeros is an empty leaf. In a leaf of the first version the tag of an object is its id. The node's numbers go
+/// into the memory of `spare`, as far as that suffices; what `spare` holds does not matter.
 pub fn decode_node(
     alloc: Global,
     page: &[u8; 4096],
     dim: u8,
     version: Version,
+    spare: Vec<u32>,
 ) -> Result<Node, Unread>
     requires some { 1 ≤ dim }
     requires few { dim ≤ 64 }
@@ -310,5 +327,5 @@ pub fn decode_node(
     if let Some(fault) = fault_of(page, dim, version) {
         return Err(Unread::NoNode(fault));
     }
-    Ok(node_in(alloc, page, dim, version)?)
+    Ok(node_in(alloc, page, dim, version, spare)?)
 }

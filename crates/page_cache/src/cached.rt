@@ -137,7 +137,8 @@ impl<P: Pages> Pages for Cached<P> {
         match self.kept.share_of(page) {
             Ok(Some(node)) => Ok(node),
             Ok(None) => {
-                let node = self.inner.node(alloc, page)?;
+                let spare = self.kept.take_spare(alloc);
+                let node = self.inner.node_with(alloc, page, spare)?;
                 self.kept.keep(page, &node);
                 Ok(node)
             }

@@ -18,6 +18,8 @@ pub const KEPT_NODES: usize = 256;
 #[derive(Drop)]
 pub struct Kept {
     nodes: LruCache<u32, SharedNode>,
+    // The memory of a node that was dropped, for the node that is read next.
+    spare: Option<Vec<u32>>,
 }
 
 impl Model for Kept {
@@ -26,6 +28,11 @@ impl Model for Kept {
     ghost Value = { Pairs };
 
     ghost view = { λ k. k.nodes };
+}
+
+// Returns the memory of a node that nobody else holds.
+fn numbers_of(dropped: SharedNode) -> Option<Vec<u32>> {
+    dropped.into_sole()?.into_numbers()
 }
 
 impl Kept {
@@ -37,6 +44,7 @@ impl Kept {
         let most = NonZeroUsize::new(pages).unwrap();
         Ok(Kept {
             nodes: LruCache::sparse(alloc, most)?,
+            spare: None,
         })
     }
 
@@ -85,8 +93,18 @@ impl Kept {
     pub(crate) fn keep(&mut self, page: u32, node: &SharedNode)
         ensures { (self.new ≡ used self.old page node.now) ⊎ (self.new ≡ self.old) }
     {
-        if let Ok(shared) = node.share() {
-            drop(self.nodes.put(page, shared));
+        let Ok(shared) = node.share() else {
+            return;
+        };
+        if let Ok(Some((_, dropped))) = self.nodes.push(page, shared) {
+            self.spare = numbers_of(dropped);
         }
+    }
+
+    // Returns memory for the node that is read next: of a node that was dropped, where there is one.
+    pub(crate) fn take_spare(&mut self, alloc: Global) -> Vec<u32>
+        ensures { self.new ≡ self.old }
+    {
+        self.spare.take().unwrap_or_else(|| Vec::new(alloc))
     }
 }

@@ -92,6 +92,15 @@ impl<D: Disk> Pages for DiskPages<'_, D> {
         (second.0 ∙ first.0, then_unchanged (D.state p.disk.now) (D.state q.disk.now) (D.state r.disk.now) first.1 second.1) };
 
     fn node(&mut self, alloc: Global, page: u32) -> Result<SharedNode, PageFault> {
+        self.node_with(alloc, page, Vec::new(alloc))
+    }
+
+    fn node_with(
+        &mut self,
+        alloc: Global,
+        page: u32,
+        spare: Vec<u32>,
+    ) -> Result<SharedNode, PageFault> {
         self.asked = self.asked.saturating_add(1);
         if !is_within(self.pages, page) {
             return Err(PageFault::Outside(page));
@@ -99,6 +108,6 @@ impl<D: Disk> Pages for DiskPages<'_, D> {
         if read_page(self.disk, page, &mut self.bytes).is_err() {
             return Err(PageFault::Disk);
         }
-        node_on(alloc, page, &self.bytes, self.dim, self.version)
+        node_on(alloc, page, &self.bytes, self.dim, self.version, spare)
     }
 }

@@ -79,7 +79,14 @@ impl Pages for ImagePages<'_> {
         }
         let (file, place) = self.image.place(page);
         if let Some(bytes) = whole_page(file, place) {
-            return node_on(alloc, page, bytes, self.dim, Version::Second);
+            return node_on(
+                alloc,
+                page,
+                bytes,
+                self.dim,
+                Version::Second,
+                Vec::new(alloc),
+            );
         }
         node_on_cut(alloc, file, place, page, self.dim)
     }

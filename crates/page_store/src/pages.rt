@@ -1,7 +1,7 @@
 ghost use Rattle.std.specs.Prelude.{◌≡◌, ◌+◌, ◌≤◌, IfOk, IfErr, OnOk, Err, IsTrue, false};
 ghost use Rattle.metric_laws.specs.Counts.{next_count};
 ghost use Rattle.page_store.specs.Reading.{is_within};
-ghost use Rattle.page_store.specs.Shelf.{Shelf, HoldsSame, IsNodeOf, HasPageCause};
+ghost use Rattle.page_store.specs.Shelf.{Shelf, GivesNode, HoldsSame, IsNodeOf, HasPageCause};
 ghost use Rattle.page_store.specs.declared.pages.PageFault.TheVariants.{Memory, Outside};
 
 use crate::SharedNode;
@@ -64,6 +64,20 @@ pub trait Pages {
         ensures asked { (shelf self.new).asked ≡ next_count (shelf self.old).asked }
         ensures reads { (shelf self.new).reads ≤ (shelf self.old).reads + 1 }
         ensures keeps { keeps self.old self.new };
+
+    /// Returns the node of page `page`, as `node` does. It may go into the memory of `spare`, whose contents do not matter.
+    fn node_with(
+        &mut self,
+        alloc: Global,
+        page: u32,
+        spare: Vec<u32>,
+    ) -> Result<SharedNode, PageFault>
+        ensures gives { GivesNode (shelf self.old) (shelf self.new) page result }
+        ensures keeps { keeps self.old self.new }
+    {
+        drop(spare);
+        self.node(alloc, page)
+    }
 
     /// A call that does nothing keeps it.
     ghost keeps_none: { (p : Self) → keeps p p };

@@ -61,13 +61,14 @@ pub fn is_within(pages: u32, page: u32) -> bool
 }
 
 /// Returns the node that a page's bytes spell, in a file of `version` over points of `dim` coordinates. A page that spells no
-/// node is `Bad`; no other refusal comes but `Memory`.
+/// node is `Bad`; no other refusal comes but `Memory`. The node goes into the memory of `spare`, as far as that suffices.
 pub fn node_on(
     alloc: Global,
     page: u32,
     bytes: &[u8; 4096],
     dim: u8,
     version: Version,
+    spare: Vec<u32>,
 ) -> Result<SharedNode, PageFault>
     requires some { 1 ≤ dim }
     requires few { dim ≤ 64 }
@@ -76,7 +77,7 @@ pub fn node_on(
         × (node ≡ node_in version dim bytes.now)) }
     ensures fault { IfErr result (IsBytesFault version dim bytes.now page) }
 {
-    match decode_node(alloc, bytes, dim, version) {
+    match decode_node(alloc, bytes, dim, version, spare) {
         Ok(node) => Ok(SharedNode::new(alloc, node)?),
         Err(Unread::Memory) => Err(PageFault::Memory),
         Err(Unread::NoNode(fault)) => Err(PageFault::Bad(page, fault)),
@@ -101,5 +102,5 @@ pub fn node_on_cut(
 {
     let mut bytes = [0; 4096];
     copy_page(file, number, &mut bytes);
-    node_on(alloc, page, &bytes, dim, Version::Second)
+    node_on(alloc, page, &bytes, dim, Version::Second, Vec::new(alloc))
 }

@@ -27,7 +27,11 @@ pub fn coordinates_from(
 }
 
 /// Reads the point that the fields from place `start` on spell.
-pub fn point_from(alloc: Global, row: &ByteRecord, start: usize) -> Result<Option<Point>, AllocError>
+pub fn point_from(
+    alloc: Global,
+    row: &ByteRecord,
+    start: usize,
+) -> Result<Option<Point>, AllocError>
     ensures { IfOk result (λ p. p ≡ coordinates (drop start (fields_in row.now))) }
 {
     let Some(found) = coordinates_from(alloc, row, start)? else {

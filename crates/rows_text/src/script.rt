@@ -2,8 +2,8 @@ ghost use Rattle.std.specs.Prelude.{◌≡◌, ◌≤◌, ◌<◌, ◌^◌, leng
 ghost use Rattle.rows_text.specs.Readable.{IsReadable};
 ghost use Rattle.rows_text.specs.Script.{script};
 
-use crate::state::Reading;
 use crate::Command;
+use crate::state::Reading;
 use csv::{ErrorKind, ReaderBuilder};
 use std::alloc::{AllocError, Global};
 
@@ -36,7 +36,11 @@ fn read_commands(alloc: Global, bytes: &[u8], dimension: usize) -> Result<Vec<Co
 ///
 /// The records are those of `csv` with commas, double quotes, no header and any number of fields, after one byte
 /// order mark, which is dropped. They are read one at a time, and a load's rows go straight into its table.
-pub fn read_script(alloc: Global, bytes: &[u8], dimension: usize) -> Result<Vec<Command>, AllocError>
+pub fn read_script(
+    alloc: Global,
+    bytes: &[u8],
+    dimension: usize,
+) -> Result<Vec<Command>, AllocError>
     requires some_coordinates { 1 ≤ dimension }
     requires few_coordinates { dimension ≤ 64 }
     requires few_bytes { length bytes.now < 2 ^ 32 }

@@ -19,8 +19,7 @@ use bulk_load::Crew;
 use disk_model::Disk;
 use index_core::Index;
 use job_files::{
-    FAULT_DISK, FAULT_MEMORY, MOST_INPUT, damaged_text, end_unread, end_with,
-    open_index, space_of,
+    FAULT_DISK, FAULT_MEMORY, MOST_INPUT, damaged_text, end_unread, end_with, open_index, space_of,
 };
 use metric_laws::Metric;
 use metric_mix::MixSpace;

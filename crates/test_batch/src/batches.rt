@@ -361,7 +361,12 @@ fn two_workers_of_an_audit_meet(rt: HostRuntime) {
 }
 
 // Makes a disk of `bytes` with room for `room` bytes whose calls numbered in `fails` fail.
-fn try_disk(alloc: Global, bytes: Vec<u8>, room: u64, fails: &[u64]) -> Result<MemoryDisk, AllocError> {
+fn try_disk(
+    alloc: Global,
+    bytes: Vec<u8>,
+    room: u64,
+    fails: &[u64],
+) -> Result<MemoryDisk, AllocError> {
     let room = room.max(bytes.len() as u64);
     MemoryDisk::new(alloc, bytes, room, room, fails.to_vec(alloc)?, None)
 }

@@ -25,7 +25,12 @@ pub(crate) fn holds(rt: &impl Abort, is_so: bool) {
 // theirs looks into its state.
 pub(crate) trait Watched: Sized {
     // Makes a disk of `bytes` with room for sixteen pages. The calls numbered in `fails` fail, and all from `stop` on.
-    fn of(alloc: Global, bytes: Vec<u8>, fails: &[u64], stop: Option<u64>) -> Result<Self, AllocError>;
+    fn of(
+        alloc: Global,
+        bytes: Vec<u8>,
+        fails: &[u64],
+        stop: Option<u64>,
+    ) -> Result<Self, AllocError>;
 
     // Counts the calls made.
     fn calls(&self) -> u64;
@@ -38,7 +43,12 @@ pub(crate) trait Watched: Sized {
 }
 
 impl Watched for MemoryDisk {
-    fn of(alloc: Global, bytes: Vec<u8>, fails: &[u64], stop: Option<u64>) -> Result<Self, AllocError> {
+    fn of(
+        alloc: Global,
+        bytes: Vec<u8>,
+        fails: &[u64],
+        stop: Option<u64>,
+    ) -> Result<Self, AllocError> {
         let room = (bytes.len() as u64).max(1 << 16);
         MemoryDisk::new(alloc, bytes, room, 1 << 22, fails.to_vec(alloc)?, stop)
     }

@@ -1,6 +1,9 @@
 ghost use Rattle.std.specs.Prelude.{◌≤◌, length};
 
-use disk_model::{Disk, Failed, FileDisk, FileProperty, MemoryDisk, SharedDisk, images_mix, looks_join, opening_then_stretch, read_may_be_left, stretch_goes_on, stretches_join, written_is_torn};
+use disk_model::{
+    Disk, Failed, FileDisk, FileProperty, MemoryDisk, SharedDisk, images_mix, looks_join,
+    opening_then_stretch, read_may_be_left, stretch_goes_on, stretches_join, written_is_torn,
+};
 use std::alloc::{AllocError, Global};
 use std::fs::{self, File, OpenOptions};
 use std::process::Abort;

@@ -65,7 +65,11 @@ fn named_by(alloc: Global, entry: InnerRef) -> Result<Named, AllocError>
 }
 
 // Pushes the nodes that `entries` name, the first one topmost.
-fn put_on_top(alloc: Global, coming: &mut Vec<Named>, entries: &InnerEntries) -> Result<(), AllocError>
+fn put_on_top(
+    alloc: Global,
+    coming: &mut Vec<Named>,
+    entries: &InnerEntries,
+) -> Result<(), AllocError>
     ensures { OnOk result (reverse coming.new.items ≡ map named_by entries.now ++ reverse coming.old.items) }
 {
     for index in (0..entries.len()).rev() {

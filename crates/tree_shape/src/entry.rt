@@ -35,3 +35,14 @@ pub enum Node {
     /// A node of level 1 to 14.
     Inner { level: u8, entries: InnerEntries },
 }
+
+impl Node {
+    /// Returns the list of numbers in which the entries stand, where the node was read from a page. Another node can be read into its
+    /// memory.
+    pub fn into_numbers(self) -> Option<Vec<u32>> {
+        match self {
+            Node::Leaf(entries) => entries.into_numbers(),
+            Node::Inner { entries, .. } => entries.into_numbers(),
+        }
+    }
+}

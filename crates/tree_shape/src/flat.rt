@@ -80,6 +80,13 @@ impl FlatEntries {
         }
     }
 
+    /// Returns the list of numbers.
+    pub(crate) fn into_numbers(self) -> Vec<u32>
+        ensures { result ≡ self.numbers }
+    {
+        self.numbers
+    }
+
     /// Copies the entries.
     pub(crate) fn try_clone(&self, alloc: Global) -> Result<Self, AllocError>
         ensures numbers { IfOk result (λ copy. copy.numbers.items ≡ self.now.numbers.items) }

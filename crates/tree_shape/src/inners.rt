@@ -155,6 +155,14 @@ impl InnerEntries {
             HeldInners::Apart(entries) => Ok(entries),
         }
     }
+
+    // Returns the list of numbers, where the subtrees stand in one.
+    pub(crate) fn into_numbers(self) -> Option<Vec<u32>> {
+        match self.held {
+            HeldInners::Flat(flat) => Some(flat.into_numbers()),
+            HeldInners::Apart(_) => None,
+        }
+    }
 }
 
 impl<'a> InnerView<'a> {

@@ -155,6 +155,14 @@ impl LeafEntries {
             HeldLeaves::Apart(entries) => Ok(entries),
         }
     }
+
+    // Returns the list of numbers, where the objects stand in one.
+    pub(crate) fn into_numbers(self) -> Option<Vec<u32>> {
+        match self.held {
+            HeldLeaves::Flat(flat) => Some(flat.into_numbers()),
+            HeldLeaves::Apart(_) => None,
+        }
+    }
 }
 
 impl<'a> LeafView<'a> {

@@ -1,4 +1,4 @@
-ghost use Rattle.std.specs.Prelude.{◌≡◌, IfOk};
+ghost use Rattle.std.specs.Prelude.{◌≡◌, IfOk, IfSome};
 
 use crate::copying::TryClone;
 use std::alloc::{AllocError, Global};
@@ -39,6 +39,13 @@ impl<T: Drop> Shared<T> {
     {
         let held = self.held.clone()?;
         Ok(Shared { held })
+    }
+
+    /// Returns the value, where it has no other holder.
+    pub fn into_sole(self) -> Option<T>
+        ensures { IfSome result (λ value. value ≡ self) }
+    {
+        Rc::try_unwrap(self.held).ok()
     }
 }
 

@@ -37,7 +37,11 @@ pub fn end_text(report: Report, sound: bool) -> &'static [u8]
 }
 
 /// Returns the line on the file `name` with its first fault, or with none.
-pub fn file_text(alloc: Global, name: &[u8], fault: Option<AuditFault>) -> Result<Vec<u8>, AllocError>
+pub fn file_text(
+    alloc: Global,
+    name: &[u8],
+    fault: Option<AuditFault>,
+) -> Result<Vec<u8>, AllocError>
     ensures { IfOk result (λ text. text.items ≡ file_text name.now fault) }
 {
     let mut text = Vec::new(alloc);
