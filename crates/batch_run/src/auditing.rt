@@ -113,7 +113,7 @@ pub fn sound_by_parts<R: Threads + Sync, D: SharedDisk, M: Metric>(
     };
     let dim = metric.dimension() as u8;
     let mut pages = DiskPages::new(&mut reader, dim, live.pages);
-    let node = match pages.node(alloc, live.root) {
+    let node = match pages.node(alloc, live.root, None) {
         Ok(node) => node,
         Err(_) => return Ok(None),
     };

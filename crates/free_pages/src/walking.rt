@@ -89,7 +89,7 @@ fn visit<P: Pages>(
     if is_opened(walk.opened.as_slice(), page) {
         return Err(PageFault::Repeats(page));
     }
-    let node = pages.node(alloc, page)?;
+    let node = pages.node(alloc, page, None)?;
     name_children(&mut walk.coming, node.as_ref())?;
     walk.opened[page as usize] = true;
     walk.count += 1;

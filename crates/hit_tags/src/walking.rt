@@ -117,7 +117,7 @@ impl Walk {
         if told.page != page {
             return Ok(false);
         }
-        let shared = pages.node(alloc, page)?;
+        let shared = pages.node(alloc, page, None)?;
         let node = shared.as_ref();
         let marks = told.marks.as_slice();
         if marks.len() != entry_count(node) {

@@ -61,10 +61,15 @@ impl<P: Pages> Pages for Lent<P> {
       same_room_by_both (lent_kept l) (lent_kept m) (lent_kept n) first.1 second.1,
     ) };
 
-    fn node(&mut self, alloc: Global, page: u32) -> Result<SharedNode, PageFault> {
+    fn node(
+        &mut self,
+        alloc: Global,
+        page: u32,
+        spare: Option<Vec<u32>>,
+    ) -> Result<SharedNode, PageFault> {
         match self {
-            Lent::Plain(inner) => inner.node(alloc, page),
-            Lent::Behind(cached) => cached.node(alloc, page),
+            Lent::Plain(inner) => inner.node(alloc, page, spare),
+            Lent::Behind(cached) => cached.node(alloc, page, spare),
         }
     }
 }

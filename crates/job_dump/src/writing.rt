@@ -59,7 +59,7 @@ fn push_object<P: Pages>(
         HasReadCause live places.now (P.shelf pages.old) (P.shelf pages.new) fault) }
 {
     let (page, number) = places.of(id);
-    let node = pages.node(alloc, page)?;
+    let node = pages.node(alloc, page, None)?;
     let Some(entry) = entry_of(node.as_ref(), number, id) else {
         return Err(DumpFault::Id(id));
     };

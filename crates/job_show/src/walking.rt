@@ -70,7 +70,7 @@ fn node_told<P: Pages>(
     if told.page != page {
         return Ok(None);
     }
-    let shared = match pages.node(alloc, page) {
+    let shared = match pages.node(alloc, page, None) {
         Ok(shared) => shared,
         Err(fault) => {
             stop_at(fault)?;

@@ -86,7 +86,7 @@ fn node_marked<P: Pages>(
     ensures disk { IsErrOf result LogStop.Disk → Rose (P.shelf pages.old).faults (P.shelf pages.new).faults }
     ensures not_sink { IsErrOf result LogStop.Sink → ⊥ }
 {
-    let shared = match pages.node(alloc, page) {
+    let shared = match pages.node(alloc, page, None) {
         Ok(shared) => shared,
         Err(fault) => {
             stop_at(fault)?;

@@ -74,7 +74,7 @@ fn node_at<P: Pages>(alloc: Global, pages: &mut P, page: u32) -> Result<SharedNo
     ensures asked { (P.shelf pages.new).asked ≡ next_count (P.shelf pages.old).asked }
     ensures reads { (P.shelf pages.new).reads ≤ (P.shelf pages.old).reads + 1 }
 {
-    pages.node(alloc, page)
+    pages.node(alloc, page, None)
 }
 
 // Returns the verdict for a side's page that gave no node.

@@ -74,7 +74,7 @@ fn node_at<P: Pages>(alloc: Global, pages: &mut P, page: u32) -> Result<SharedNo
     ensures told { IfOk result (λ node. IsTrue (P.shelf pages.old).is_known → (P.shelf pages.old).read page ≡ Ok node) }
     ensures cause { IfErr result (λ v. IsPageVerdict (P.shelf pages.old) (P.shelf pages.new) page v) }
 {
-    match pages.node(alloc, page) {
+    match pages.node(alloc, page, None) {
         Ok(node) => Ok(node),
         Err(PageFault::Memory) => Err(Verdict::Memory),
         Err(fault) => Err(Verdict::Page(fault)),

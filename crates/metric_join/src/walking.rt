@@ -168,7 +168,7 @@ fn node_at<P: Pages>(
     if room == 0 {
         return Err(PageFault::Repeats(page));
     }
-    pages.node(alloc, page)
+    pages.node(alloc, page, None)
 }
 
 // Reads the node of the opened item.

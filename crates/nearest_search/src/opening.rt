@@ -224,7 +224,7 @@ pub fn open_page<P: Pages, R: Ruler>(
         })) }
     ensures cause { IfErr result (HasPageCause (P.shelf pages.old) (P.shelf pages.new) next.page) }
 {
-    let node = pages.node(alloc, next.page)?;
+    let node = pages.node(alloc, next.page, None)?;
     let seen = see_node(alloc, ruler, probe, next.above, node.as_ref(), machine)?;
     let turn = Turn {
         page: next.page,

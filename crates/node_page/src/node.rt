@@ -181,12 +181,15 @@ fn fault_of(page: &[u8; 4096], dim: u8, version: Version) -> Option<NodeFault>
     None
 }
 
-// Returns a list of `count` numbers, whatever they are: `spare`, cut or made longer.
-fn of_length(spare: Vec<u32>, count: usize) -> Result<Vec<u32>, AllocError>
+// Returns a list of `count` numbers, whatever they are: `spare`, if there is one, cut or made longer.
+fn of_length(alloc: Global, spare: Option<Vec<u32>>, count: usize) -> Result<Vec<u32>, AllocError>
     requires { count ≤ 1020 }
     ensures { IfOk result (λ numbers. length numbers.items ≡ count) }
 {
-    let mut numbers = spare;
+    let mut numbers = match spare {
+        Some(numbers) => numbers,
+        None => Vec::with_capacity(alloc, count)?,
+    };
     numbers.truncate(count);
     let missing = count - numbers.len();
     numbers.extend_from_slice(&ZEROS[..missing])?;
@@ -203,30 +206,36 @@ fn read_numbers(page: &[u8; 4096], numbers: &mut [u32])
     BigEndian::read_u32_into(&page[ENTRIES..ENTRIES + 4 * numbers.len()], numbers);
 }
 
-// Returns the first `count` numbers of four bytes of the entries, in the memory of `spare`.
-fn numbers_of(page: &[u8; 4096], count: usize, spare: Vec<u32>) -> Result<Vec<u32>, AllocError>
+// Returns the first `count` numbers of four bytes of the entries, in the memory of `spare`, if there is some.
+fn numbers_of(
+    alloc: Global,
+    page: &[u8; 4096],
+    count: usize,
+    spare: Option<Vec<u32>>,
+) -> Result<Vec<u32>, AllocError>
     requires { 16 + 4 * count ≤ 4096 }
     ensures numbers { IfOk result (λ numbers. AreNumbers page.now numbers.items) }
     ensures len { IfOk result (λ numbers. length numbers.items ≡ count) }
 {
-    let mut numbers = of_length(spare, count)?;
+    let mut numbers = of_length(alloc, spare, count)?;
     read_numbers(page, &mut numbers);
     Ok(numbers)
 }
 
 // Reads the entries of an inner node, or of a leaf of the second version: both have the same fields.
 fn flat_entries(
+    alloc: Global,
     page: &[u8; 4096],
     dim: u8,
     count: usize,
-    spare: Vec<u32>,
+    spare: Option<Vec<u32>>,
 ) -> Result<FlatEntries, AllocError>
     requires few { dim ≤ 64 }
     requires most { count ≤ most_for dim }
     ensures leaves { IfOk result (λ flat. flat_leaves flat ≡ firsts (λ i. leaf_at dim page.now (place_of dim i)) count) }
     ensures inners { IfOk result (λ flat. flat_inners flat ≡ firsts (λ i. inner_at dim page.now (place_of dim i)) count) }
 {
-    let numbers = numbers_of(page, FlatEntries::width(dim) * count, spare)?;
+    let numbers = numbers_of(alloc, page, FlatEntries::width(dim) * count, spare)?;
     Ok(FlatEntries::new(numbers, dim, count))
 }
 
@@ -236,14 +245,14 @@ fn old_leaves(
     page: &[u8; 4096],
     dim: u8,
     count: usize,
-    spare: Vec<u32>,
+    spare: Option<Vec<u32>>,
 ) -> Result<Vec<LeafEntry>, AllocError>
     requires few { dim ≤ 64 }
     requires most { count ≤ most_for dim }
     ensures { IfOk result (λ es. es.items ≡ firsts (λ i. leaf_in First dim page.now (place_in First true dim i)) count) }
 {
     let long = usize::from(dim);
-    let numbers = numbers_of(page, (OLD_BEFORE + long) * count, spare)?;
+    let numbers = numbers_of(alloc, page, (OLD_BEFORE + long) * count, spare)?;
     let numbers = ArcSlice::from_vec(numbers)?;
     let mut entries = Vec::with_capacity(alloc, count)?;
     for index in 0..count {
@@ -267,7 +276,7 @@ fn leaf_entries(
     dim: u8,
     version: Version,
     count: usize,
-    spare: Vec<u32>,
+    spare: Option<Vec<u32>>,
 ) -> Result<LeafEntries, AllocError>
     requires few { dim ≤ 64 }
     requires most { count ≤ most_for dim }
@@ -275,7 +284,7 @@ fn leaf_entries(
 {
     match version {
         Version::First => Ok(LeafEntries::new(old_leaves(alloc, page, dim, count, spare)?)),
-        Version::Second => Ok(LeafEntries::flat(flat_entries(page, dim, count, spare)?)),
+        Version::Second => Ok(LeafEntries::flat(flat_entries(alloc, page, dim, count, spare)?)),
     }
 }
 
@@ -286,7 +295,7 @@ fn node_in(
     page: &[u8; 4096],
     dim: u8,
     version: Version,
-    spare: Vec<u32>,
+    spare: Option<Vec<u32>>,
 ) -> Result<Node, AllocError>
     requires few { dim ≤ 64 }
     requires most { count_of page.now ≤ most_for dim }
@@ -298,19 +307,19 @@ fn node_in(
         let entries = leaf_entries(alloc, page, dim, version, count, spare)?;
         return Ok(Node::Leaf(entries));
     }
-    let entries = InnerEntries::flat(flat_entries(page, dim, count, spare)?);
+    let entries = InnerEntries::flat(flat_entries(alloc, page, dim, count, spare)?);
     Ok(Node::Inner { level, entries })
 }
 
 /// Reads a node over points of `dim` coordinates from a page of a file of `version`, or names the page's first fault in the order of
 /// `NodeFault`. A page of zeros is an empty leaf. In a leaf of the first version the tag of an object is its id. The node's numbers go
-/// into the memory of `spare`, as far as that suffices; what `spare` holds does not matter.
+/// into the memory of `spare`, if there is some; what `spare` holds does not matter.
 pub fn decode_node(
     alloc: Global,
     page: &[u8; 4096],
     dim: u8,
     version: Version,
-    spare: Vec<u32>,
+    spare: Option<Vec<u32>>,
 ) -> Result<Node, Unread>
     requires some { 1 ≤ dim }
     requires few { dim ≤ 64 }

@@ -111,7 +111,12 @@ impl<P: Pages> Pages for Cached<P> {
     /// as many holders as can be counted.
     /// Clauses: the answer (`ok`, `hit`); what stays (`same`, `keeps`); what the cache holds (`kept`); the cost (`asked`, `reads`,
     /// `unread`, `unasked`, `asks`); the cause of an error (`cause`, `outside`); faults of the devices (`no_fault`).
-    fn node(&mut self, alloc: Global, page: u32) -> Result<SharedNode, PageFault>
+    fn node(
+        &mut self,
+        alloc: Global,
+        page: u32,
+        spare: Option<Vec<u32>>,
+    ) -> Result<SharedNode, PageFault>
         ensures ok { IfOk result (IsNodeOf (asked_for (P.shelf self.old.inner) self.old.asked) page) }
         ensures cause { IfErr result (HasPageCause (asked_for (P.shelf self.old.inner) self.old.asked)
             (asked_for (P.shelf self.new.inner) self.new.asked) page) }
@@ -137,8 +142,8 @@ impl<P: Pages> Pages for Cached<P> {
         match self.kept.share_of(page) {
             Ok(Some(node)) => Ok(node),
             Ok(None) => {
-                let spare = self.kept.take_spare(alloc);
-                let node = self.inner.node_with(alloc, page, spare)?;
+                let spare = self.kept.take_spare().or(spare);
+                let node = self.inner.node(alloc, page, spare)?;
                 self.kept.keep(page, &node);
                 Ok(node)
             }

@@ -101,10 +101,10 @@ impl Kept {
         }
     }
 
-    // Returns memory for the node that is read next: of a node that was dropped, where there is one.
-    pub(crate) fn take_spare(&mut self, alloc: Global) -> Vec<u32>
+    // Returns the memory of a node that was dropped, for the node that is read next.
+    pub(crate) fn take_spare(&mut self) -> Option<Vec<u32>>
         ensures { self.new ≡ self.old }
     {
-        self.spare.take().unwrap_or_else(|| Vec::new(alloc))
+        self.spare.take()
     }
 }

@@ -1,6 +1,5 @@
 -- What pages mean to their callers.
-use Rattle.std.specs.Prelude.{◌≡◌, ℕ, ◌+◌, ◌≤◌, Bool, false, IsTrue, IfOk, IfErr, OnOk, Result, Ok, Err}
-use Rattle.metric_laws.specs.Counts.{next_count}
+use Rattle.std.specs.Prelude.{◌≡◌, ℕ, ◌≤◌, Bool, false, IsTrue, Ok, Err}
 use Rattle.outside_io.specs.Causes.{Rose}
 use Rattle.tree_shape.specs.declared.entry.Node.{Node}
 use Rattle.node_page.specs.Nodes.{IsValidNode}
@@ -42,17 +41,6 @@ HasPageCause old new page (Outside p) = (p ≡ page) × (is_within old.pages pag
 HasPageCause old new page Memory = Unit {0}
 HasPageCause old new page (Repeats p) = ⊥
 HasPageCause old new page (Level p) = ⊥
-
--- what a request for a page gives and costs
-pub record GivesNode (old new : Shelf) (page : ℕ) (result : Result Node PageFault) : Type 0 where
-  pub ok : IfOk result (IsNodeOf old page)
-  pub cause : IfErr result (HasPageCause old new page)
-  pub no_fault : OnOk result (new.faults ≡ old.faults)
-  pub outside : is_within old.pages page ≡ false → result ≡ Err (Outside page)
-  pub unread : is_within old.pages page ≡ false → new.reads ≡ old.reads
-  pub same : HoldsSame old new
-  pub asked : new.asked ≡ next_count old.asked
-  pub reads : new.reads ≤ old.reads + 1
 
 -- what may come at any time: the disk failed, or memory ran out
 abbrev pub IsPassing : PageFault → Type 0

@@ -91,15 +91,11 @@ impl<D: Disk> Pages for DiskPages<'_, D> {
     ghost keeps_both = { λ p q r first second.
         (second.0 ∙ first.0, then_unchanged (D.state p.disk.now) (D.state q.disk.now) (D.state r.disk.now) first.1 second.1) };
 
-    fn node(&mut self, alloc: Global, page: u32) -> Result<SharedNode, PageFault> {
-        self.node_with(alloc, page, Vec::new(alloc))
-    }
-
-    fn node_with(
+    fn node(
         &mut self,
         alloc: Global,
         page: u32,
-        spare: Vec<u32>,
+        spare: Option<Vec<u32>>,
     ) -> Result<SharedNode, PageFault> {
         self.asked = self.asked.saturating_add(1);
         if !is_within(self.pages, page) {

@@ -72,21 +72,19 @@ impl Pages for ImagePages<'_> {
 
     ghost keeps_both = { λ p q r first second. second ∙ first };
 
-    fn node(&mut self, alloc: Global, page: u32) -> Result<SharedNode, PageFault> {
+    fn node(
+        &mut self,
+        alloc: Global,
+        page: u32,
+        spare: Option<Vec<u32>>,
+    ) -> Result<SharedNode, PageFault> {
         self.asked = self.asked.saturating_add(1);
         if !is_within(self.pages, page) {
             return Err(PageFault::Outside(page));
         }
         let (file, place) = self.image.place(page);
         if let Some(bytes) = whole_page(file, place) {
-            return node_on(
-                alloc,
-                page,
-                bytes,
-                self.dim,
-                Version::Second,
-                Vec::new(alloc),
-            );
+            return node_on(alloc, page, bytes, self.dim, Version::Second, spare);
         }
         node_on_cut(alloc, file, place, page, self.dim)
     }

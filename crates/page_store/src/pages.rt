@@ -1,7 +1,7 @@
 ghost use Rattle.std.specs.Prelude.{◌≡◌, ◌+◌, ◌≤◌, IfOk, IfErr, OnOk, Err, IsTrue, false};
 ghost use Rattle.metric_laws.specs.Counts.{next_count};
 ghost use Rattle.page_store.specs.Reading.{is_within};
-ghost use Rattle.page_store.specs.Shelf.{Shelf, GivesNode, HoldsSame, IsNodeOf, HasPageCause};
+ghost use Rattle.page_store.specs.Shelf.{Shelf, HoldsSame, IsNodeOf, HasPageCause};
 ghost use Rattle.page_store.specs.declared.pages.PageFault.TheVariants.{Memory, Outside};
 
 use crate::SharedNode;
@@ -50,11 +50,16 @@ pub trait Pages {
     /// What every call keeps. It tells the owner of a disk what the pages did to the disk.
     ghost keeps: { Self → Self → Type 0 };
 
-    /// Returns the node of page `page`. `Outside` comes before the other refusals, and without a read. `Repeats` and `Level` never
-    /// come.
+    /// Returns the node of page `page`. It may go into the memory of `spare`, whose contents do not matter. `Outside` comes before the
+    /// other refusals, and without a read. `Repeats` and `Level` never come.
     /// Clauses: the answer (`ok`); what stays (`same`, `keeps`); the cost (`asked`, `reads`, `unread`); the cause of an error (`cause`,
     /// `outside`); faults of the devices (`no_fault`).
-    fn node(&mut self, alloc: Global, page: u32) -> Result<SharedNode, PageFault>
+    fn node(
+        &mut self,
+        alloc: Global,
+        page: u32,
+        spare: Option<Vec<u32>>,
+    ) -> Result<SharedNode, PageFault>
         ensures ok { IfOk result (IsNodeOf (shelf self.old) page) }
         ensures cause { IfErr result (HasPageCause (shelf self.old) (shelf self.new) page) }
         ensures no_fault { OnOk result ((shelf self.new).faults ≡ (shelf self.old).faults) }
@@ -64,20 +69,6 @@ pub trait Pages {
         ensures asked { (shelf self.new).asked ≡ next_count (shelf self.old).asked }
         ensures reads { (shelf self.new).reads ≤ (shelf self.old).reads + 1 }
         ensures keeps { keeps self.old self.new };
-
-    /// Returns the node of page `page`, as `node` does. It may go into the memory of `spare`, whose contents do not matter.
-    fn node_with(
-        &mut self,
-        alloc: Global,
-        page: u32,
-        spare: Vec<u32>,
-    ) -> Result<SharedNode, PageFault>
-        ensures gives { GivesNode (shelf self.old) (shelf self.new) page result }
-        ensures keeps { keeps self.old self.new }
-    {
-        drop(spare);
-        self.node(alloc, page)
-    }
 
     /// A call that does nothing keeps it.
     ghost keeps_none: { (p : Self) → keeps p p };
@@ -96,6 +87,6 @@ pub fn own_node<P: Pages>(alloc: Global, pages: &mut P, page: u32) -> Result<Nod
     ensures reads { (P.shelf pages.new).reads ≤ (P.shelf pages.old).reads + 1 }
     ensures keeps { P.keeps pages.old pages.new }
 {
-    let shared = pages.node(alloc, page)?;
+    let shared = pages.node(alloc, page, None)?;
     Ok(shared.into_value(alloc)?)
 }

@@ -61,14 +61,14 @@ pub fn is_within(pages: u32, page: u32) -> bool
 }
 
 /// Returns the node that a page's bytes spell, in a file of `version` over points of `dim` coordinates. A page that spells no
-/// node is `Bad`; no other refusal comes but `Memory`. The node goes into the memory of `spare`, as far as that suffices.
+/// node is `Bad`; no other refusal comes but `Memory`. The node goes into the memory of `spare`, if there is some.
 pub fn node_on(
     alloc: Global,
     page: u32,
     bytes: &[u8; 4096],
     dim: u8,
     version: Version,
-    spare: Vec<u32>,
+    spare: Option<Vec<u32>>,
 ) -> Result<SharedNode, PageFault>
     requires some { 1 ≤ dim }
     requires few { dim ≤ 64 }
@@ -102,5 +102,5 @@ pub fn node_on_cut(
 {
     let mut bytes = [0; 4096];
     copy_page(file, number, &mut bytes);
-    node_on(alloc, page, &bytes, dim, Version::Second, Vec::new(alloc))
+    node_on(alloc, page, &bytes, dim, Version::Second, None)
 }

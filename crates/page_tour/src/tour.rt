@@ -79,7 +79,7 @@ impl Tour {
         if self.opened == self.most {
             return Err(PageFault::Repeats(page));
         }
-        let node = pages.node(alloc, page)?;
+        let node = pages.node(alloc, page, None)?;
         push_children(&mut self.stack, node.as_ref())?;
         self.opened += 1;
         Ok(Some((page, node)))

@@ -86,7 +86,7 @@ pub fn open_page<P: Pages, R: Ruler>(
         walk.new.candidates walk.old.subtrees walk.new.subtrees) }
     ensures cause { IfErr result (HasPageCause (P.shelf pages.old) (P.shelf pages.new) page) }
 {
-    let node = pages.node(alloc, page)?;
+    let node = pages.node(alloc, page, None)?;
     match node.as_ref() {
         Node::Leaf(entries) => {
             meet_objects(ruler, q, entries, &mut walk.candidates)?;

@@ -41,7 +41,7 @@ fn open_page<P: Pages, R: Ruler>(
     ensures asked { (P.shelf pages.new).asked ≡ next_count (P.shelf pages.old).asked }
     ensures reads { (P.shelf pages.new).reads ≤ (P.shelf pages.old).reads + 1 }
 {
-    let node = pages.node(alloc, need.page)?;
+    let node = pages.node(alloc, need.page, None)?;
     walk.take_node(alloc, ruler, probe, need, node.as_ref())?;
     Ok(())
 }

@@ -5,7 +5,7 @@ mod command;
 mod field;
 pub mod laws;
 mod load;
-mod number;
+mod numbers;
 mod points;
 mod reading;
 mod refusal;
@@ -16,7 +16,7 @@ mod state;
 mod text;
 
 pub use command::Command;
-pub use number::number;
+pub use numbers::number;
 pub use refusal::Refusal;
 pub use reply::Reply;
 pub use script::read_script;

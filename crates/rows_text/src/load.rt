@@ -1,7 +1,7 @@
 ghost use Rattle.std.specs.Prelude.{◌≡◌};
 
 use crate::field::field;
-use crate::number::number;
+use crate::numbers::number;
 use crate::points::coordinates_from;
 use crate::{Command, Refusal};
 use csv::ByteRecord;

@@ -3,7 +3,7 @@ ghost use Rattle.rows_text.specs.Numbers.{coordinates};
 ghost use Rattle.rows_text.specs.Records.{fields_in};
 
 use crate::field::field;
-use crate::number::coordinate;
+use crate::numbers::coordinate;
 use csv::ByteRecord;
 use metric_laws::Point;
 use std::alloc::{AllocError, Global};

@@ -5,7 +5,7 @@ ghost use Rattle.rows_text.specs.Reading.{GoesOn, IsNewReading, Reads, commands_
 
 use crate::field::field;
 use crate::load::OpenLoad;
-use crate::number::number;
+use crate::numbers::number;
 use crate::single::read_single;
 use crate::state::{Reading, Start};
 use crate::{Command, Refusal};

@@ -3,7 +3,7 @@ ghost use Rattle.rows_text.specs.Records.{fields_in};
 ghost use Rattle.rows_text.specs.Script.{close_of, count_of, cursor_of, insert_of, nearest_of, next_of, range_of, single_of, tag_insert_of};
 
 use crate::field::field;
-use crate::number::{coordinate, number};
+use crate::numbers::{coordinate, number};
 use crate::points::point_from;
 use crate::{Command, Refusal};
 use csv::ByteRecord;

@@ -79,14 +79,7 @@ impl Carried {
         ensures fault { IfErr result (IsBytesFault Second self.now.head.dim (page_of (file_of self.now) page) page) }
     {
         let bytes = page_bytes(self.pages.as_slice(), page);
-        node_on(
-            alloc,
-            page,
-            &bytes,
-            self.head.dim,
-            Version::Second,
-            Vec::new(alloc),
-        )
+        node_on(alloc, page, &bytes, self.head.dim, Version::Second, None)
     }
 
     /// Returns the fault of the first record whose page isn't carried.

@@ -36,7 +36,12 @@ impl Pages for CarriedPages<'_> {
 
     ghost keeps_both = { λ p q r first second. second ∙ first };
 
-    fn node(&mut self, alloc: Global, page: u32) -> Result<SharedNode, PageFault> {
+    fn node(
+        &mut self,
+        alloc: Global,
+        page: u32,
+        _spare: Option<Vec<u32>>,
+    ) -> Result<SharedNode, PageFault> {
         self.asked = self.asked.saturating_add(1);
         if !is_within(self.carried.live().pages, page) {
             return Err(PageFault::Outside(page));

@@ -72,7 +72,7 @@ fn ask<P: Pages>(alloc: Global, pages: &mut P, page: u32) -> Result<Shown, PageF
     ensures same { HoldsSame (P.shelf pages.old) (P.shelf pages.new) }
     ensures keeps { P.keeps pages.old pages.new }
 {
-    let node = pages.node(alloc, page)?;
+    let node = pages.node(alloc, page, None)?;
     Ok(shown(node.as_ref()))
 }
 

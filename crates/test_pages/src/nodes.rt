@@ -139,9 +139,7 @@ fn is_leaf(node: &Node) -> bool {
 
 // Checks the node of a page.
 fn check_leaf(rt: &(impl AllocGlobal + Abort), page: &[u8; 4096]) {
-    let node = decode_node(rt.alloc(), page, 2, Version::Second, Vec::new(rt.alloc())).expect(
-        rt, "a leaf",
-    );
+    let node = decode_node(rt.alloc(), page, 2, Version::Second, None).expect(rt, "a leaf");
     holds(rt, is_leaf(&node));
 }
 
@@ -156,7 +154,7 @@ fn check_fault(
     put(page, at, byte);
     holds(
         rt,
-        decode_node(rt.alloc(), page, 2, Version::Second, Vec::new(rt.alloc())).err()
+        decode_node(rt.alloc(), page, 2, Version::Second, None).err()
             == Some(Unread::NoNode(fault)),
     );
 }
@@ -174,9 +172,7 @@ fn a_leaf_is_read_or_refused_for_its_first_fault(rt: HostRuntime) {
 
 // Reads the node of a page, and writes it to another page.
 fn written_again(rt: &(impl AllocGlobal + Abort), page: &[u8; 4096]) -> [u8; 4096] {
-    let node = decode_node(rt.alloc(), page, 2, Version::Second, Vec::new(rt.alloc())).expect(
-        rt, "a leaf",
-    );
+    let node = decode_node(rt.alloc(), page, 2, Version::Second, None).expect(rt, "a leaf");
     let mut written = [0xffu8; 4096];
     encode_node(&node, 2, &mut written);
     written
@@ -190,9 +186,7 @@ fn a_leaf_that_was_read_is_written_again(rt: HostRuntime) {
 
 // Checks the node of a page of the first version of the format.
 fn check_old_leaf(rt: &(impl AllocGlobal + Abort), page: &[u8; 4096]) {
-    let node = decode_node(rt.alloc(), page, 2, Version::First, Vec::new(rt.alloc())).expect(
-        rt, "a leaf",
-    );
+    let node = decode_node(rt.alloc(), page, 2, Version::First, None).expect(rt, "a leaf");
     holds(rt, is_leaf(&node));
 }
 
@@ -202,7 +196,7 @@ fn a_leaf_of_the_first_version(rt: HostRuntime) {
     let mut page = leaf_page(35);
     check_old_leaf(&rt, &page);
     put(&mut page, 36, 1);
-    let fault = decode_node(rt.alloc(), &page, 2, Version::First, Vec::new(rt.alloc())).err();
+    let fault = decode_node(rt.alloc(), &page, 2, Version::First, None).err();
     holds(&rt, fault == Some(Unread::NoNode(NodeFault::Tail)));
 }
 
@@ -264,14 +258,9 @@ fn made_again(rt: &(impl AllocGlobal + Abort), node: Node) -> Node {
 // Sees the same objects in the list of numbers, in its copy, and each by itself.
 #[test]
 fn the_objects_of_a_leaf_are_seen_taken_out_and_copied(rt: HostRuntime) {
-    let node = decode_node(
-        rt.alloc(),
-        &page_of_two(),
-        3,
-        Version::Second,
-        Vec::new(rt.alloc()),
-    )
-    .expect(&rt, "a leaf");
+    let node = decode_node(rt.alloc(), &page_of_two(), 3, Version::Second, None).expect(
+        &rt, "a leaf",
+    );
     holds(&rt, are_two(&node));
     let copy = node.try_clone(rt.alloc()).expect(&rt, "memory");
     holds(&rt, are_two(&copy));

@@ -31,7 +31,7 @@ fn disk_of(alloc: Global, bytes: Vec<u8>, stop: Option<u64>) -> Result<MemoryDis
 
 // Says why a page gives no node.
 fn fault_at<P: Pages>(alloc: Global, pages: &mut P, page: u32) -> Option<PageFault> {
-    pages.node(alloc, page).err()
+    pages.node(alloc, page, None).err()
 }
 
 // Says whether a node is a leaf of one object at (3, 4).
@@ -44,7 +44,7 @@ fn is_leaf(node: &Node) -> bool {
 
 // Says whether a page gives such a leaf.
 fn gives_leaf<P: Pages>(rt: &(impl AllocGlobal + Abort), pages: &mut P, page: u32) -> bool {
-    let node = pages.node(rt.alloc(), page).expect(rt, "a node");
+    let node = pages.node(rt.alloc(), page, None).expect(rt, "a node");
     is_leaf(node.as_ref())
 }
 

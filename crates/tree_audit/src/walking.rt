@@ -195,7 +195,7 @@ fn open_page<P: Pages>(alloc: Global, pages: &mut P, page: u32) -> Result<Shared
     ensures keeps { P.keeps pages.old pages.new }
     ensures no_fault { OnOk result ((P.shelf pages.new).faults ≡ (P.shelf pages.old).faults) }
 {
-    match pages.node(alloc, page) {
+    match pages.node(alloc, page, None) {
         Ok(node) => Ok(node),
         Err(PageFault::Memory) => Err(AuditFault::Memory),
         Err(fault) => Err(AuditFault::Page(fault)),

@@ -123,7 +123,7 @@ fn draw<P: Pages>(
         (reverse coming.new.items)) }
     ensures cause { IfErr result (HasPageCause (P.shelf pages.old) (P.shelf pages.new) named.page) }
 {
-    let node = pages.node(alloc, named.page)?;
+    let node = pages.node(alloc, named.page, None)?;
     if lines.push(line_of(named, node.as_ref())).is_err() {
         return Err(PageFault::Memory);
     }
