@@ -13,3 +13,4 @@ pub mod KeptWalk
 pub mod Ends
 pub mod Walking
 pub mod Explored
+pub mod Published

@@ -33,19 +33,19 @@ pub all_beyond_first : (rho : ℕ) (xs : List Pending) (first : Pending) → IsL
 all_beyond_first rho xs first least far y i = let l = least_low first xs least y i in omega arith
 
 -- one of what is still to be queued is queued
-pub moved_one : (all P cur cur' : List Pending) (x : Pending) → IsPermutation all (x ∷ P ++ cur) → IsPermutation (x ∷ cur) cur' → IsPermutation all (P ++ cur')
+pub moved_one : {A : Type 0} (all P cur cur' : List A) (x : A) → IsPermutation all (x ∷ P ++ cur) → IsPermutation (x ∷ cur) cur' → IsPermutation all (P ++ cur')
 moved_one all P cur cur' x before pushed =
     IsPermutation-trans all (x ∷ (P ++ cur)) (P ++ cur') before
     (IsPermutation-trans (x ∷ (P ++ cur)) (P ++ x ∷ cur) (P ++ cur') (IsPermutation-sym (P ++ x ∷ cur) (x ∷ (P ++ cur)) (IsPermutation-middle P x cur))
     (IsPermutation-append_right P (x ∷ cur) cur' pushed))
 
 -- a list of one is in one order
-pub one_alone : (x : Pending) (ys : List Pending) → IsPermutation (x ∷ []) ys → ys ≡ x ∷ []
-one_alone x ys moved = only ys (length_permutation (x ∷ []) ys moved) (in-permutation (x ∷ []) ys x moved (inl refl))
+pub one_alone : {A : Type 0} (x : A) (ys : List A) → IsPermutation (x ∷ []) ys → ys ≡ x ∷ []
+one_alone {A = A} x ys moved = only ys (length_permutation (x ∷ []) ys moved) (in-permutation (x ∷ []) ys x moved (inl refl))
   where
-    only : (ys : List Pending) → length ys ≡ 1 → IsIn x ys → ys ≡ x ∷ []
+    only : (ys : List A) → length ys ≡ 1 → IsIn x ys → ys ≡ x ∷ []
     only [] long i = absurd i
-    only (y ∷ []) long i = elim i [ inl e ↦ ap (λ (z : Pending). z ∷ []) (sym e) | inr w ↦ absurd w ]
+    only (y ∷ []) long i = elim i [ inl e ↦ ap (λ (z : A). z ∷ []) (sym e) | inr w ↦ absurd w ]
     only (y ∷ z ∷ zs) long i = absurd (omega arith)
 
 -- one of the distances that are still to come is taken in

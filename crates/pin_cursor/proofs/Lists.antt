@@ -1,33 +1,18 @@
 -- Sums over lists, lists in another order, and fronts of lists.
 use Rattle.std.proofs.Common.{◌≡◌, ℕ, zero, suc, ◌+◌, ◌<◌, ◌≤◌, List, [], ◌∷◌, ◌++◌, refl, sym, ap, inl, inr, arith, ◌∙◌, append_assoc, length, get_or, take, drop, drop-cons, add-one, subst}
-use Rattle.std.specs.Prelude.{map, if◌then◌else◌, ◌==◌, Contains, IsPermutation}
+use Rattle.std.specs.Prelude.{map, if◌then◌else◌, ◌==◌, IsPermutation}
 use Rattle.std.specs.List.{flat_map}
 use Rattle.std.proofs.lemmas.List.{append-nil}
-use Rattle.std.proofs.lemmas.List.Recursion.{is_sum_by}
-use Rattle.std.proofs.lemmas.List.Sorted.{Contains-permutation, IsPermutation-sym, IsPermutation-trans, IsPermutation-middle, IsPermutation-append_right, IsPermutation-append_left, IsPermutation-append_comm, IsPermutation-cons, IsPermutation-refl, sum_by-IsPermutation}
+use Rattle.std.proofs.lemmas.List.Sorted.{IsPermutation-trans, IsPermutation-middle, IsPermutation-append_right, IsPermutation-append_left, IsPermutation-append_comm, IsPermutation-cons, IsPermutation-refl}
 use Rattle.metric_laws.specs.Lists.{IsIn}
 use Rattle.metric_laws.proofs.Published.{in-append, in-append_left, in-append_right}
 use Rattle.tree_shape.specs.Tree.{times}
+use Rattle.nearest_search.specs.Counts.{total}
+use Rattle.nearest_search.proofs.Published.{total-append, total-flat_map, total-permutation, in-permutation, in-permutation_back}
 use Rattle.tree_shape.proofs.Published.{in-flat_map}
 use Rattle.pin_cursor.specs.declared.waiting.Candidate.{Candidate}
 
 -- ---- sums
-
-abbrev pub total : {X : Type 0} → (X → ℕ) → List X → ℕ
-total g [] = 0
-total g (x ∷ xs) = g x + total g xs
-
-pub total-append : {X : Type 0} (g : X → ℕ) (xs ys : List X) → total g (xs ++ ys) ≡ total g xs + total g ys
-total-append g [] ys = omega arith
-total-append g (x ∷ xs) ys = let ih = total-append g xs ys in omega arith
-
-pub total-flat_map : {X Y : Type 0} (g : Y → ℕ) (h : X → List Y) (xs : List X) → total g (flat_map h xs) ≡ total (λ x. total g (h x)) xs
-total-flat_map g h [] = refl
-total-flat_map g h (x ∷ xs) = total-append g (h x) (flat_map h xs) ∙ ap (λ n. total g (h x) + n) (total-flat_map g h xs)
-
-pub total-permutation : {X : Type 0} (g : X → ℕ) (xs ys : List X) → IsPermutation xs ys → total g xs ≡ total g ys
-total-permutation g xs ys moved =
-    is_sum_by (total g) g refl (λ x xs. refl) xs ∙ sym (sum_by-IsPermutation g xs ys moved) ∙ sym (is_sum_by (total g) g refl (λ x xs. refl) ys)
 
 -- how often an id stands
 abbrev pub one_of : ℕ → Candidate → ℕ
@@ -38,25 +23,6 @@ times_total id [] = refl
 times_total id (c ∷ cs) = ap (λ n. one_of id c + n) (times_total id cs)
 
 -- ---- members
-
-contains-in : {X : Type 0} (xs : List X) (x : X) → IsIn x xs → Contains xs x
-contains-in [] x k = absurd k
-contains-in (y ∷ ys) x k =
-    elim k [
-      | inl e ↦ (0, (let l : 0 < length (y ∷ ys) = omega arith in l), sym e)
-      | inr w ↦ (let deep = contains-in ys x w in (suc deep.0, (let l : suc deep.0 < length (y ∷ ys) = omega (arith, deep.1) in l), deep.2))
-    ]
-
-pub in-at : {X : Type 0} (xs : List X) (k : ℕ) (x : X) → k < length xs → get_or xs k x ≡ x → IsIn x xs
-in-at [] k x low is = absurd (omega arith)
-in-at (y ∷ ys) zero x low is = inl (sym is)
-in-at (y ∷ ys) (suc k) x low is = inr (in-at ys k x (omega arith) is)
-
-pub in-permutation : {X : Type 0} (xs ys : List X) (x : X) → IsPermutation xs ys → IsIn x xs → IsIn x ys
-in-permutation xs ys x moved k = let c = Contains-permutation xs ys x moved (contains-in xs x k) in in-at ys c.0 x c.1 c.2
-
-pub in-permutation_back : {X : Type 0} (xs ys : List X) (x : X) → IsPermutation xs ys → IsIn x ys → IsIn x xs
-in-permutation_back xs ys x moved k = in-permutation ys xs x (IsPermutation-sym xs ys moved) k
 
 -- what stands in joined lists stands in one of them
 pub flat_map-in : {X Y : Type 0} (f : X → List Y) (xs : List X) (y : Y) → IsIn y (flat_map f xs) → (x : X) × IsIn x xs × IsIn y (f x)
@@ -154,13 +120,6 @@ take_rest (suc k) (suc n) [] is low = refl
 take_rest (suc k) (suc n) (x ∷ l) is low = ap (λ r. x ∷ r) (take_rest k n l is (omega arith))
 
 -- ---- entries that are added one at a time
-
--- one of what is still to be added was added
-pub moved_one : {X : Type 0} (all P cur cur' : List X) (x : X) → IsPermutation all (x ∷ P ++ cur) → IsPermutation (x ∷ cur) cur' → IsPermutation all (P ++ cur')
-moved_one all P cur cur' x before pushed =
-    IsPermutation-trans all (x ∷ (P ++ cur)) (P ++ cur') before
-    (IsPermutation-trans (x ∷ (P ++ cur)) (P ++ x ∷ cur) (P ++ cur') (IsPermutation-sym (P ++ x ∷ cur) (x ∷ (P ++ cur)) (IsPermutation-middle P x cur))
-    (IsPermutation-append_right P (x ∷ cur) cur' pushed))
 
 pub map-drop : {X Y : Type 0} (f : X → Y) (es : List X) (i : ℕ) (e : X) → i < length es → e ≡ get_or es i e → map f (drop i es) ≡ f e ∷ map f (drop (i + 1) es)
 map-drop f es i e low is = rw (add-one, drop-cons es i e low, ← is) refl

@@ -1,16 +1,14 @@
 -- The order of what waits.
-use Rattle.std.proofs.Common.{◌≡◌, ◌⊎◌, ℕ, ◌<◌, ◌≤◌, Bool, true, false, List, [], ◌∷◌, Option, Some, None, refl, sym, ap, inl, inr, arith, length}
-use Rattle.std.specs.Prelude.{nat_lt, IsPermutation, IfSome}
+use Rattle.std.proofs.Common.{◌≡◌, ◌⊎◌, ℕ, ◌<◌, ◌≤◌, Bool, true, false, List, ◌∷◌, Option, Some, None, refl, inl, inr, arith}
+use Rattle.std.specs.Prelude.{nat_lt, IfSome}
 use Rattle.std.specs.Ordering.{nat_cmp, ordering_then, is_lt}
 use Rattle.std.specs.declared.cmp.Ordering.{Ordering}
 use Rattle.std.proofs.lemmas.Bool.Decides.{nat_tests}
-use Rattle.std.proofs.lemmas.List.Sorted.{length_permutation}
 use Rattle.metric_laws.specs.Lists.{IsIn}
 use Rattle.nearest_search.specs.Least.{IsLeast}
 use Rattle.pin_cursor.specs.declared.waiting.Subtree.{Subtree}
 use Rattle.pin_cursor.specs.declared.waiting.Candidate.{Candidate}
 use Rattle.pin_cursor.specs.Order.{subtree_order, candidate_order, IsBeyond, AllBeyond, IsFirst}
-use Rattle.pin_cursor.proofs.Lists.{in-permutation}
 
 -- ---- subtrees
 
@@ -30,15 +28,6 @@ pub taken_within : (reach : Option ℕ) (xs : List Subtree) (first : Subtree) (t
 taken_within reach xs first None least i near = tt
 taken_within None xs first (Some x) least i near = λ far. far
 taken_within (Some reach) xs first (Some x) least i near = λ far. near (let l = least_low x xs least first i in omega arith)
-
--- a list of one element has only one order
-pub one_alone : (x : Subtree) (ys : List Subtree) → IsPermutation (x ∷ []) ys → ys ≡ x ∷ []
-one_alone x ys moved = only ys (length_permutation (x ∷ []) ys moved) (in-permutation (x ∷ []) ys x moved (inl refl))
-  where
-    only : (ys : List Subtree) → length ys ≡ 1 → IsIn x ys → ys ≡ x ∷ []
-    only [] long i = absurd i
-    only (y ∷ []) long i = elim i [ inl e ↦ ap (λ (z : Subtree). z ∷ []) (sym e) | inr w ↦ absurd w ]
-    only (y ∷ z ∷ zs) long i = absurd (omega arith)
 
 -- ---- candidates
 

@@ -19,7 +19,9 @@ use Rattle.log_model.proofs.Published.{map-append}
 use Rattle.pin_cursor.specs.declared.waiting.Subtree.{Subtree}
 use Rattle.pin_cursor.specs.declared.waiting.Candidate.{Candidate}
 use Rattle.pin_cursor.specs.Cursor.{OpenCursor, candidate_of, subtree_of, node_level, pages_below, coming, waiting, IsSubtreeOf, IsCursorOn}
-use Rattle.pin_cursor.proofs.Lists.{total, total-append, total-permutation, one_of, times_total, in-permutation_back, still_in, was_in, same_total}
+use Rattle.nearest_search.specs.Counts.{total}
+use Rattle.nearest_search.proofs.Published.{total-append, total-permutation, in-permutation_back}
+use Rattle.pin_cursor.proofs.Lists.{one_of, times_total, still_in, was_in, same_total}
 use Rattle.pin_cursor.proofs.Pops.{level_is}
 
 map-flat_map : {X Y Z : Type 0} (g : Y → Z) (f : X → List Y) (xs : List X) → map g (flat_map f xs) ≡ flat_map (λ x. map g (f x)) xs

@@ -18,7 +18,9 @@ use Rattle.pin_cursor.specs.declared.waiting.Subtree.{Subtree}
 use Rattle.pin_cursor.specs.declared.waiting.Candidate.{Candidate}
 use Rattle.pin_cursor.specs.Order.{IsReach, AllBeyond, IsFirst}
 use Rattle.pin_cursor.specs.Cursor.{OpenCursor, candidate_of, hit_of, node_level, objects_below, coming, waiting, rest_of, IsCursorOn}
-use Rattle.pin_cursor.proofs.Lists.{total, total-append, total-permutation, one_of, times_total, in-permutation, in-permutation_back, flat_map-in, drop_add}
+use Rattle.nearest_search.specs.Counts.{total}
+use Rattle.nearest_search.proofs.Published.{total-append, total-permutation, in-permutation, in-permutation_back}
+use Rattle.pin_cursor.proofs.Lists.{one_of, times_total, flat_map-in, drop_add}
 
 -- ---- lists
 

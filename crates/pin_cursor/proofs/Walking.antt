@@ -11,7 +11,8 @@ use Rattle.tree_shape.proofs.Published.{times-append}
 use Rattle.nearest_search.specs.Walks.{HasOpened, OpensBefore, named_of}
 use Rattle.pin_cursor.specs.declared.waiting.Subtree.{Subtree}
 use Rattle.pin_cursor.specs.Cursor.{subtree_of}
-use Rattle.pin_cursor.proofs.Lists.{in-permutation_back, total, total-append, total-permutation}
+use Rattle.nearest_search.specs.Counts.{total}
+use Rattle.nearest_search.proofs.Published.{in-permutation_back, total-append, total-permutation}
 
 abbrev one_at : ℕ → Subtree → ℕ
 one_at k x = if x.page == k then 1 else 0

@@ -26,7 +26,8 @@ use Rattle.pin_cursor.specs.declared.waiting.Candidate.{Candidate}
 use Rattle.pin_cursor.specs.Order.{IsReach, AllBeyond, IsFirst}
 use Rattle.pin_cursor.specs.Cursor.{OpenCursor, candidate_of, subtree_of, hit_of, rest_of, tags_of, waiting, IsCursorOn, IsWalked, HoldsTree}
 use Rattle.pin_cursor.specs.Steps.{IsReachedFrom, HasStepCause, IsOpened, Gives, IsUnderWay, IsAccounted, objects_in, subtrees_in, stage, HasGiven, GivesNext}
-use Rattle.pin_cursor.proofs.Lists.{in-permutation_back, drop_add, take_more, take_rest, account_begun, account_opened, account_met}
+use Rattle.nearest_search.proofs.Published.{in-permutation_back}
+use Rattle.pin_cursor.proofs.Lists.{drop_add, take_more, take_rest, account_begun, account_opened, account_met}
 use Rattle.pin_cursor.proofs.Pops.{standing, given_first, given_stands, given_tag}
 use Rattle.pin_cursor.proofs.Walking.{walk_opens, opens_before}
 use Rattle.pin_cursor.proofs.Opens.{page_there, node_there, opens_room, opened_stands}

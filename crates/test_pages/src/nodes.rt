@@ -269,3 +269,18 @@ fn the_objects_of_a_leaf_are_seen_taken_out_and_copied(rt: HostRuntime) {
     let again = apart.try_clone(rt.alloc()).expect(&rt, "memory");
     holds(&rt, are_two(&again));
 }
+
+// Reads the same objects into the memory of lists that are shorter and longer, whatever they hold, and gives that memory back.
+#[test]
+fn a_leaf_is_read_into_the_memory_of_any_list(rt: HostRuntime) {
+    for len in [0, 3, 16, 17, 1020, 2000] {
+        let mut spare = Vec::new(rt.alloc());
+        spare.resize(len, 7u32).expect(&rt, "memory");
+        let node = decode_node(rt.alloc(), &page_of_two(), 3, Version::Second, Some(spare)).expect(
+            &rt, "a leaf",
+        );
+        holds(&rt, are_two(&node));
+        let numbers = node.into_numbers().expect(&rt, "one list of numbers");
+        holds(&rt, numbers.len() == 16 && numbers.capacity() >= len);
+    }
+}

@@ -5,7 +5,8 @@ use Rattle.tree_shape.specs.declared.entry.LeafEntry.{LeafEntry}
 use Rattle.tree_shape.specs.Entries.{leaf_of}
 use Rattle.pin_cursor.specs.declared.waiting.Candidate.{Candidate}
 use Rattle.pin_cursor.specs.Cursor.{candidate_of}
-use Rattle.pin_cursor.proofs.Lists.{moved_one, map-drop}
+use Rattle.nearest_search.proofs.Published.{moved_one}
+use Rattle.pin_cursor.proofs.Lists.{map-drop}
 use Rattle.pin_cursor.proofs.opening.meet_objects.Goals as goal
 
 pub loop-index-preserved : goal.loop-index-preserved

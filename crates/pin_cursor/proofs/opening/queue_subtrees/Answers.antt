@@ -5,7 +5,8 @@ use Rattle.tree_shape.specs.declared.entry.InnerEntry.{InnerEntry}
 use Rattle.tree_shape.specs.Entries.{inner_of}
 use Rattle.pin_cursor.specs.declared.waiting.Subtree.{Subtree}
 use Rattle.pin_cursor.specs.Cursor.{subtree_of}
-use Rattle.pin_cursor.proofs.Lists.{moved_one, map-drop}
+use Rattle.nearest_search.proofs.Published.{moved_one}
+use Rattle.pin_cursor.proofs.Lists.{map-drop}
 use Rattle.pin_cursor.proofs.opening.queue_subtrees.Goals as goal
 
 pub loop-index-preserved : goal.loop-index-preserved

@@ -2,7 +2,7 @@ use Rattle.std.proofs.Common.{◌≡◌, List, [], ◌∷◌, sym, subst}
 use Rattle.std.specs.Prelude.{IsPermutation}
 use Rattle.pin_cursor.specs.declared.waiting.Subtree.{Subtree}
 use Rattle.pin_cursor.specs.Cursor.{root_of, IsCursorOn}
-use Rattle.pin_cursor.proofs.Nearest.{one_alone}
+use Rattle.nearest_search.proofs.Published.{one_alone}
 use Rattle.pin_cursor.proofs.Starts.{starts}
 use Rattle.pin_cursor.proofs.cursor.Cursor.open.Goals as goal
 
