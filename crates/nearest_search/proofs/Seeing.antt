@@ -39,7 +39,7 @@ far_ones e es Far ms far = refl
 far_ones e es Near ms far = absurd (cc)
 
 -- what was seen so far, and what will be seen
-pub seen_next : {X : Type 0} (see : X → Sight) (xs ys : List Sight) (es : List X) (i : ℕ) (e : X) → i < length es → e ≡ get_or es i e → ys ≡ xs ++ see e ∷ [] →
+pub seen_next : {X Y : Type 0} (see : X → Y) (xs ys : List Y) (es : List X) (i : ℕ) (e : X) → i < length es → e ≡ get_or es i e → ys ≡ xs ++ see e ∷ [] →
     ys ++ map see (drop (i + 1) es) ≡ xs ++ map see (drop i es)
 seen_next see xs ys es i e low is pushed = rw (pushed, add-one, drop-cons es i e low, ← is) (append_assoc xs (see e ∷ []) (map see (drop (suc i) es)))
 

@@ -6,19 +6,28 @@ ghost use Rattle.nearest_search.specs.Keeping.{kept_seen, KeepsFew};
 ghost use Rattle.nearest_search.specs.RebuiltLog.{TakesSeen, IsRebuiltLog};
 
 use crate::kept::{Kept, Turn};
-use crate::seen::{Seen, Sight};
+use crate::seen::{Seen, Sight, is_near};
 use log_model::{Mark, Need, Record, Traversal};
 use metric_laws::Listed;
 use scan_model::Hit;
 use std::alloc::{AllocError, Global};
 use tree_shape::Live;
 
-// Appends the objects of `seen` that are marked Near at the radius `rho` to `hits`.
-fn push_hits(hits: &mut Vec<Hit>, rho: u64, seen: &[Sight]) -> Result<(), AllocError>
-    ensures { OnOk result (hits.new.items ≡ hits.old.items ++ map hit_seen (seen_near rho seen.now)) }
+// Returns the least marks of the objects of `seen` at the radius `rho`, and appends those that are marked Near to `hits`.
+fn mark_objects(
+    alloc: Global,
+    hits: &mut Vec<Hit>,
+    rho: u64,
+    seen: &[Sight],
+) -> Result<Vec<Mark>, AllocError>
+    ensures hits { OnOk result (hits.new.items ≡ hits.old.items ++ map hit_seen (seen_near rho seen.now)) }
+    ensures marks { IfOk result (λ marks. marks.items ≡ map (mark_at rho) seen.now) }
 {
+    let mut marks = Vec::with_capacity(alloc, seen.len())?;
     for sight in seen {
-        if !sight.is_near(rho) {
+        let mark = sight.mark(rho);
+        marks.push(mark)?;
+        if !is_near(mark) {
             continue;
         }
         hits.push(Hit {
@@ -26,7 +35,7 @@ fn push_hits(hits: &mut Vec<Hit>, rho: u64, seen: &[Sight]) -> Result<(), AllocE
             dist: sight.dist,
         })?;
     }
-    Ok(())
+    Ok(marks)
 }
 
 // Pushes the subtrees of `seen` that are marked Near at the radius `rho` on the stack, so that the first of them is on top.
@@ -57,17 +66,10 @@ fn marks_at(alloc: Global, rho: u64, seen: &[Sight]) -> Result<Vec<Mark>, AllocE
     Ok(marks)
 }
 
-// Appends the record of `page` with the least marks at the radius `rho`.
-fn push_record(
-    alloc: Global,
-    records: &mut Vec<Record>,
-    rho: u64,
-    page: u32,
-    seen: &[Sight],
-) -> Result<(), AllocError>
-    ensures { OnOk result (records.new.items ≡ records.old.items ++ record { page = page; marks = map (mark_at rho) seen.now } ∷ []) }
+// Appends the record of `page` with the marks of its entries.
+fn push_record(records: &mut Vec<Record>, page: u32, marks: Vec<Mark>) -> Result<(), AllocError>
+    ensures { OnOk result (records.new.items ≡ records.old.items ++ record { page = page; marks = marks.items } ∷ []) }
 {
-    let marks = marks_at(alloc, rho, seen)?;
     records.push(Record {
         page,
         marks: Listed::new(marks),
@@ -87,12 +89,13 @@ fn take_seen(
 {
     match seen {
         Seen::Objects(seen) => {
-            push_hits(&mut walk.hits, rho, seen.as_slice())?;
-            push_record(alloc, &mut walk.records, rho, need.page, seen.as_slice())
+            let marks = mark_objects(alloc, &mut walk.hits, rho, seen.as_slice())?;
+            push_record(&mut walk.records, need.page, marks)
         }
         Seen::Subtrees(seen) => {
             push_needs(&mut walk.stack, rho, seen.as_slice())?;
-            push_record(alloc, &mut walk.records, rho, need.page, seen.as_slice())
+            let marks = marks_at(alloc, rho, seen.as_slice())?;
+            push_record(&mut walk.records, need.page, marks)
         }
     }
 }

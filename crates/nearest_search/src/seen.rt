@@ -59,10 +59,17 @@ impl Sight {
     pub fn is_near(&self, rho: u64) -> bool
         ensures { result ≡ is_near (mark_at rho self.now) }
     {
-        match self.mark(rho) {
-            Mark::Near => true,
-            Mark::Skip | Mark::Far => false,
-        }
+        is_near(self.mark(rho))
+    }
+}
+
+/// Returns whether a mark is Near.
+pub fn is_near(mark: Mark) -> bool
+    ensures { result ≡ is_near mark }
+{
+    match mark {
+        Mark::Near => true,
+        Mark::Skip | Mark::Far => false,
     }
 }
 
