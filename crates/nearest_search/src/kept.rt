@@ -1,4 +1,4 @@
-ghost use Rattle.std.specs.Prelude.{◌≡◌, ◌⊎◌, ℕ, Option, [], Some, OnOk};
+ghost use Rattle.std.specs.Prelude.{◌≡◌, ◌⊎◌, ℕ, Option, [], Some, IfOk, OnOk};
 ghost use Rattle.std.specs.Option.{option_copied};
 ghost use Rattle.nearest_search.specs.Keeping.{Keeping, kept_seen};
 
@@ -16,6 +16,9 @@ pub struct Turn {
     pub above: Option<u64>,
 }
 
+/// The room that is taken at once: most searches of small files and many of large ones open no more pages.
+const SOME_OPENINGS: usize = 112;
+
 /// What was seen at each opening of a page.
 #[derive(Drop)]
 pub struct Kept {
@@ -30,12 +33,12 @@ impl Model for Kept {
 
 impl Kept {
     /// Keeps nothing yet.
-    pub fn new(alloc: Global) -> Self
-        ensures { result ≡ [] }
+    pub fn new(alloc: Global) -> Result<Self, AllocError>
+        ensures { IfOk result (λ kept. kept ≡ []) }
     {
-        Kept {
-            map: HashMap::new(alloc),
-        }
+        Ok(Kept {
+            map: HashMap::with_capacity(alloc, SOME_OPENINGS)?,
+        })
     }
 
     /// Returns what was seen at the opening `turn`, if it is kept.

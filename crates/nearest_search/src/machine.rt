@@ -45,7 +45,7 @@ impl Machine {
         Ok(Machine {
             frontier,
             best: Best::new(alloc, k),
-            kept: Kept::new(alloc),
+            kept: Kept::new(alloc)?,
         })
     }
 }
