@@ -1,7 +1,7 @@
-"""Measures queries from Python beside the program and beside scikit-learn's BallTree and scipy's cKDTree, in one run.
+"""Measures queries from Python beside the program and beside scikit-learn's BallTree, scipy's cKDTree and faiss' flat index, in one run.
 
-Use: speed.py [OBJECTS [QUERIES]], with numpy, and with MTREE_LIBRARY and MTREE_PROGRAM set or the package installed. Each time is the least of
-three. Run it on a machine that has nothing else to do."""
+Use: speed.py [OBJECTS [QUERIES [DIM [CENTRES]]]], with numpy, and with MTREE_LIBRARY and MTREE_PROGRAM set or the package installed. Each time
+is the least of three. Run it on a machine that has nothing else to do."""
 
 import os
 import resource
@@ -15,8 +15,8 @@ import numpy
 import mtree
 from mtree import _program
 
-OBJECTS, QUERIES = map(int, sys.argv[1:3] + ["100000", "10000"][len(sys.argv) - 1 :])
-DIM, COUNT, CENTRES, TIMES = 8, 10, 1000, 3
+OBJECTS, QUERIES, DIM, CENTRES = map(int, sys.argv[1:5] + ["100000", "10000", "8", "1000"][len(sys.argv) - 1 :])
+COUNT, TIMES = 10, 3
 
 
 def clustered(count, chance, centres):
@@ -51,7 +51,7 @@ def main():
         one, (distances, ids) = least(lambda: index.kneighbors(asked, COUNT), time.process_time)
         clock_one, _ = least(lambda: index.kneighbors(asked, COUNT), time.perf_counter)
         clock_four, _ = least(lambda: index.kneighbors(asked, COUNT, n_jobs=4), time.perf_counter)
-    print(f"{OBJECTS} clustered points of {DIM} numbers under l1, {QUERIES} queries for the {COUNT} nearest; seconds")
+    print(f"{OBJECTS} clustered points of {DIM} numbers near {CENTRES} centres under l1, {QUERIES} queries for the {COUNT} nearest; seconds")
     print(f"batch, one worker, of the processor: {batch:.2f}")
     print(f"kneighbors, of the processor: {one:.2f}, {one / batch:.2f} times batch")
     print(f"kneighbors by the clock: {clock_one:.2f}; with n_jobs=4 {clock_four:.2f}, {clock_four / clock_one:.2f} of it")
@@ -66,6 +66,16 @@ def main():
     for name, work in (("BallTree", lambda: ball.query(points, COUNT)[0]), ("cKDTree", lambda: tree.query(points, COUNT, p=1)[0])):
         took, found = least(work, time.process_time)
         print(f"{name}, of the processor: {took:.2f}; the same distances: {bool((found == distances).all())}")
+    try:
+        import faiss
+    except ImportError as reason:
+        print(f"no flat index: {reason}")
+        return
+    faiss.omp_set_num_threads(1)
+    flat = faiss.IndexFlat(DIM, faiss.METRIC_L1)
+    flat.add(rows.astype("f4"))
+    took, found = least(lambda: flat.search(asked.astype("f4"), COUNT)[0], time.process_time)
+    print(f"faiss' flat index, of the processor: {took:.2f}; the same distances: {bool((found == distances).all())}")
 
 
 if __name__ == "__main__":
