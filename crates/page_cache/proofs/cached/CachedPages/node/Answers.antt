@@ -11,6 +11,14 @@ invariant_of-self g c =
     subst (λ (k : Pairs). Agrees k shelf) (sym kept)
     (used_agrees c.self.inside.kept shelf c.args.page c.in-Ok-Some.node c.self.invariant (found_is_node c.self.inside.kept shelf c.args.page c.in-Ok-Some.node c.self.invariant found))
 
+pub invariant_of-self-in-Ok-Some-2 : goal.invariant_of-self-in-Ok-Some-2
+invariant_of-self-in-Ok-Some-2 g c =
+    let shelf = g.P.Pages.shelf c.self.inside.inner in
+    let found : kept_node c.self.inside.kept c.args.page ≡ Some c.in-Ok-Some.node = sym c.in-Ok-Some.ensures.found ∙ c.in-Ok-Some.field-0-is in
+    let kept : c.share_of.new.self ≡ used c.self.inside.kept c.args.page c.in-Ok-Some.node = rw c.in-Ok-Some.field-0-is at c.in-Ok-Some.ensures.kept in
+    subst (λ (k : Pairs). Agrees k shelf) (sym kept)
+    (used_agrees c.self.inside.kept shelf c.args.page c.in-Ok-Some.node c.self.invariant (found_is_node c.self.inside.kept shelf c.args.page c.in-Ok-Some.node c.self.invariant found))
+
 pub invariant_of-self-in-Ok-None : goal.invariant_of-self-in-Ok-None
 invariant_of-self-in-Ok-None g c =
     let old = g.P.Pages.shelf c.self.inside.inner in
@@ -18,7 +26,8 @@ invariant_of-self-in-Ok-None g c =
     let same : c.share_of.new.self ≡ c.self.inside.kept = rw c.in-Ok-None.field-0-is at c.in-Ok-None.ensures.kept in
     let agrees : Agrees c.share_of.new.self new = subst (λ (k : Pairs). Agrees k new) (sym same) (agrees-same c.self.inside.kept old new c.node.ensures.same c.self.invariant) in
     let node = c.in_ok-node-in-Ok-None.node in
-    kept_agrees c.share_of.new.self c.keep.new.self new c.args.page node agrees (is_node-same old new c.args.page node c.node.ensures.same c.in_ok-node-in-Ok-None.ensures.ok) c.keep.ensures
+    kept_agrees c.share_of.new.self c.keep.new.self new c.args.page node agrees (is_node-same old new c.args.page node c.node.ensures.same c.in_ok-node-in-Ok-None.ensures.ok)
+    (rw c.take_spare.ensures at c.keep.ensures)
 
 pub returns-in-Ok-Some-clause-ok : goal.returns-in-Ok-Some-clause-ok
 returns-in-Ok-Some-clause-ok g c =
