@@ -1,11 +1,11 @@
 -- What a session on an index leaves and writes, by its status.
-use Rattle.std.proofs.Common.{◌≡◌, ◌≢◌, ◌⊎◌, inl, inr, ⊎_elim, ℕ, ◌+◌, ◌≤◌, Bool, List, [], ◌++◌, Option, Some, None, refl, sym, ◌∙◌, ap, subst, arith}
+use Rattle.std.proofs.Common.{◌≡◌, ◌≢◌, ◌⊎◌, inl, inr, ⊎_elim, ℕ, ◌+◌, ◌≤◌, Bool, List, [], ◌++◌, Option, Some, None, refl, sym, ◌∙◌, ap, subst, arith, length, length-append}
 use Rattle.std.specs.Prelude.{codes, IsTrue, MatchOption}
 use Rattle.std.specs.List.{AllByRecursion, concat}
 use Rattle.std.specs.Io.KnownBytes.{Appends, Consumes, IsAtEnd}
 use Rattle.std.proofs.KnownBytes.{Appends-nil}
 use Rattle.std.proofs.lemmas.List.{append-nil}
-use Rattle.outside_io.specs.Bytes.{AppendsPrefix}
+use Rattle.outside_io.specs.Bytes.{AppendsPrefix, TakesUpTo}
 use Rattle.outside_io.specs.Causes.{Rose}
 use Rattle.outside_io.specs.Sinks.{SinkState, Tells}
 use Rattle.disk_model.specs.Disk.{DiskState, EachImage, IsUnchanged, MayLeave}
@@ -551,6 +551,19 @@ pub not_read_session : {A B C : Type 0} → (show : Bool) (input : Option (List 
 not_read_session show input disk out0 out1 log status failed long memory statuses =
     ⊎_elim (λ is. input_session show input disk out0 out1 log status is (failed is).1)
     (λ rest. ⊎_elim (λ is. long_session show input disk out0 out1 log status is (long is).1) (λ is. memory_session show input disk out0 out1 log status is (memory is).1) rest) statuses
+
+-- then with no fault of the source it is too long, unless memory ran out
+pub unread_complete : (input left : Option (List ℕ)) (disk : DiskState) (Failed Others Long : Type 0) (status : ℕ) → TakesUpTo (2 ^ 26) input left Long
+    → (status ≡ 3 → Failed) → (status ≡ 7 → Long) → (status ≡ 3) ⊎ ((status ≡ 7) ⊎ (status ≡ 8)) → IsComplete input disk (Failed ⊎ Others) status
+unread_complete None left disk Failed Others Long status takes failed long statuses = tt
+unread_complete (Some bytes) None disk Failed Others Long status takes failed long statuses = absurd takes.taken
+unread_complete (Some bytes) (Some rest) disk Failed Others Long status takes failed long statuses = λ few is_known head live sound no. elim statuses [
+  | inl is ↦ absurd (no (inl (failed is)))
+  | inr more ↦ elim more [
+    | inl is ↦ absurd (let most : ⊥ = omega (arith, takes.long.0 (long is), few, ap length takes.taken, length-append takes.bytes rest) in most)
+    | inr is ↦ inr is
+  ]
+]
 
 -- ---- a script that was read whole
 
