@@ -1,4 +1,4 @@
-use Rattle.std.proofs.Common.{◌∙◌}
+use Rattle.std.proofs.Common.{Err, ap, ◌∙◌}
 use Rattle.session_run.proofs.Jobs.{not_read_session, unread_complete, ran_complete, ran_session}
 use Rattle.session_run.proofs.job.run_session.Goals as goal
 
@@ -10,7 +10,7 @@ returns-in-Err-clause-runs g c =
 pub returns-in-Err-clause-complete : goal.returns-in-Err-clause-complete
 returns-in-Err-clause-complete g c =
     unread_complete (g.S.Source.left c.args.input.now) (g.S.Source.left c.read_all.new.source) (g.D.Disk.state c.args.index.now) _ _ _ c.end_unread.result.0 c.in-Err.ensures.too_long
-    (λ is. c.in-Err.ensures.fault (c.end_unread.ensures.input is).0) (λ is. (c.end_unread.ensures.long is).0) c.end_unread.ensures.statuses
+    (λ is. c.in-Err.ensures.fault (ap Err (c.end_unread.ensures.input is).0)) (λ is. ap Err (c.end_unread.ensures.long is).0) c.end_unread.ensures.statuses
 
 pub returns-in-Ok-clause-runs : goal.returns-in-Ok-clause-runs
 returns-in-Ok-clause-runs g c =
