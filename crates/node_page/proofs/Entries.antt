@@ -1,14 +1,13 @@
 -- The numbers of the entries on a page.
-use Rattle.std.proofs.Common.{◌≡◌, inl, inr, [], ◌++◌, length-append, ℕ, suc, ◌+◌, ◌*◌, ◌-◌, ◌^◌, ◌<◌, ◌≤◌, true, List, length, take, drop, get_or, slice_index, sym, ◌∙◌, ap, arith, length-drop, mul-le-mul_left}
-use Rattle.std.proofs.lemmas.Bool.{cases_lt}
-use Rattle.std.proofs.lemmas.List.{get_or_append_left, get_or-append-add, get_or-drop, drop-take, drop-drop, take_all}
+use Rattle.std.proofs.Common.{◌≡◌, ℕ, suc, ◌+◌, ◌*◌, ◌-◌, ◌^◌, ◌<◌, ◌≤◌, true, List, length, take, drop, get_or, slice_index, sym, ◌∙◌, ap, arith, length-drop, mul-le-mul_left}
+use Rattle.std.proofs.lemmas.List.{get_or-drop, drop-take, drop-drop, take_all}
 use Rattle.byteorder.specs.Endian.{IsRead, big_number}
 use Rattle.tree_shape.specs.Flat.{wide, start_of, leaf_from, inner_from}
 use Rattle.tree_shape.specs.declared.entry.LeafEntry.{LeafEntry}
 use Rattle.node_page.specs.Bytes.{number_at}
 use Rattle.node_page.specs.declared.node.Version.TheVariants.{First}
 use Rattle.node_page.specs.Nodes.{AreNumbers, firsts, point_at, place_in, place_of, leaf_at, leaf_in, inner_at}
-use Rattle.node_page.proofs.Listing.{firsts_none, firsts_by, firsts_same, place-firsts}
+use Rattle.node_page.proofs.Listing.{firsts_by, firsts_same, place-firsts}
 use Rattle.node_page.proofs.Numbers.{number_got}
 use Rattle.node_page.proofs.Putting.{leaf_by, inner_by}
 

@@ -68,11 +68,8 @@ const DISTANCE: usize = 8;
 /// The numbers of four bytes of a leaf entry of the first version before its coordinates.
 const OLD_BEFORE: usize = 3;
 
-/// The most numbers of four bytes of a page's entries.
-const MOST_NUMBERS: usize = 1020;
-
-/// Numbers that make a list longer.
-const ZEROS: [u32; MOST_NUMBERS] = [0; MOST_NUMBERS];
+/// Numbers that make a list longer: 1,020 bytes at a time cost less than all at once.
+const ZEROS: [u32; 255] = [0; 255];
 
 // Returns the number of bytes of an entry before its parent distance. The coordinates follow that.
 fn parent_place(version: Version, leaf: bool) -> usize
@@ -183,7 +180,6 @@ fn fault_of(page: &[u8; 4096], dim: u8, version: Version) -> Option<NodeFault>
 
 // Returns a list of `count` numbers, whatever they are: `spare`, if there is one, cut or made longer.
 fn of_length(alloc: Global, spare: Option<Vec<u32>>, count: usize) -> Result<Vec<u32>, AllocError>
-    requires { count ≤ 1020 }
     ensures { IfOk result (λ numbers. length numbers.items ≡ count) }
 {
     let mut numbers = match spare {
@@ -191,8 +187,10 @@ fn of_length(alloc: Global, spare: Option<Vec<u32>>, count: usize) -> Result<Vec
         None => Vec::with_capacity(alloc, count)?,
     };
     numbers.truncate(count);
-    let missing = count - numbers.len();
-    numbers.extend_from_slice(&ZEROS[..missing])?;
+    while numbers.len() < count {
+        let missing = count - numbers.len();
+        numbers.extend_from_slice(&ZEROS[..missing.min(ZEROS.len())])?;
+    }
     Ok(numbers)
 }
 

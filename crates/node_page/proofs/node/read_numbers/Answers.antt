@@ -1,4 +1,4 @@
-use Rattle.std.proofs.Common.{◌*◌, ℕ, length, take, drop, subst, arith}
+use Rattle.std.proofs.Common.{ℕ, length, take, drop, subst, arith}
 use Rattle.byteorder.specs.Endian.{IsRead, big_number}
 use Rattle.node_page.proofs.Entries.{numbers_read}
 use Rattle.node_page.proofs.node.read_numbers.Goals as goal

@@ -1,4 +1,4 @@
-use Rattle.std.proofs.Common.{◌≡◌, ◌+◌, ℕ, List, length, get_or, sym, ◌∙◌, ap, arith}
+use Rattle.std.proofs.Common.{◌≡◌, ◌+◌, List, length, get_or, sym, ◌∙◌, ap, arith}
 use Rattle.tree_shape.specs.declared.entry.InnerEntry.{InnerEntry}
 use Rattle.tree_shape.specs.Flat.{firsts, inner_from, start_of}
 use Rattle.tree_shape.specs.Entries.{inners_seen, inner_of}

@@ -1,4 +1,4 @@
-use Rattle.std.proofs.Common.{◌≡◌, ◌+◌, ℕ, List, length, get_or, sym, ◌∙◌, ap, arith}
+use Rattle.std.proofs.Common.{◌≡◌, ◌+◌, List, length, get_or, sym, ◌∙◌, ap, arith}
 use Rattle.tree_shape.specs.declared.entry.LeafEntry.{LeafEntry}
 use Rattle.tree_shape.specs.Flat.{firsts, leaf_from, start_of}
 use Rattle.tree_shape.specs.Entries.{leaves_seen, leaf_of}
