@@ -1,6 +1,6 @@
 -- The lemmas that proofs of crates above cite; all else in proofs/ is this crate's own.
 
 -- Sums over lists, and members in another order.
-pub use Rattle.nearest_search.proofs.Totals.{total-append, total-flat_map, total-permutation, in-at, in-permutation, in-permutation_back}
+pub use Rattle.nearest_search.proofs.Totals.{total-append, total-flat_map, total-permutation, in-permutation, in-permutation_back}
 -- A list of one is in one order; one of what is still to be added was added.
 pub use Rattle.nearest_search.proofs.Waits.{one_alone, moved_one}
