@@ -37,10 +37,8 @@ use Rattle.nearest_search.specs.declared.pending.Pending.{Pending}
 use Rattle.nearest_search.specs.Counts.{IsRadius}
 use Rattle.nearest_search.specs.Queue.{IsNext}
 use Rattle.nearest_search.specs.declared.seen.Sight.{Sight}
-use Rattle.nearest_search.specs.declared.seen.Seen.{Seen}
-use Rattle.nearest_search.specs.declared.seen.Seen.TheVariants.{Objects, Subtrees}
-use Rattle.nearest_search.specs.Seeing.{IsSeenOf, object_sight, subtree_sight, sights, mark_at, is_near, seen_near, hit_seen, need_seen, hits_seen, record_seen}
-use Rattle.nearest_search.specs.Keeping.{Sheets, kept_seen, IsKept, AreSeenOf, KeepsFew}
+use Rattle.nearest_search.specs.Seeing.{Seen, Objects, Subtrees, IsSeenOf, object_sight, subtree_sight, sights, mark_at, is_near, seen_near, hit_seen, need_seen, hits_seen, record_seen}
+use Rattle.nearest_search.specs.Keeping.{Sheets, IsKept, AreSeenOf, KeepsFew}
 use Rattle.nearest_search.specs.Machine.{pending_root, pending_of, pendings_of, dists_of, entries_in, entries_of}
 use Rattle.nearest_search.specs.Opened.{State, Takes, IsOpened}
 use Rattle.nearest_search.specs.RebuiltLog.{TakesSeen, IsRebuilding, IsRebuiltLog, IsStopped}
@@ -133,7 +131,7 @@ queued_child f above (Inner level es) x k =
     (from.0, near-in es (least_marks f above (Inner level es)) from.0 from.1, ap (λ (y : Pending). y.page) from.2)
 
 abbrev pub first_state : Live → ℕ → State
-first_state live used = record { queue = pending_root live.root ∷ []; best = []; kept = kept_seen []; used = used }
+first_state live used = record { queue = pending_root live.root ∷ []; best = []; kept = λ page above. None; used = used }
 
 module _ (s : Space) (axioms : IsSpace s) (old : Shelf) (live : Live) (q : List ℕ) (q_fits : IsTrue (s.is_point q)) (k used : ℕ) where
   pub explore_begins : IsExploring s old old live q k (first_state live used) 0 used
@@ -382,7 +380,7 @@ few_near rho (x ∷ xs) = cases (is_near (mark_at rho x)) (few_near rho xs)
     cases false ih = omega arith
 
 few_named : (rho : ℕ) (seen : Seen) → length (hits_seen rho seen) ≤ length (sights seen)
-few_named rho (Objects xs) = let few = few_near rho xs.items in let same = length-map (seen_near rho xs.items) hit_seen in omega arith
+few_named rho (Objects xs) = let few = few_near rho xs in let same = length-map (seen_near rho xs) hit_seen in omega arith
 few_named rho (Subtrees xs) = omega arith
 
 pub rebuilding_steps : (rho : ℕ) (kept : Sheets) (root : ℕ) (one other : Traversal) (n : Need) (rest : List Need) (seen : Seen) → reverse one.stack.items ≡ n ∷ rest → KeepsFew kept → kept n.page n.above ≡ Some seen →

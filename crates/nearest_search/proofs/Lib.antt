@@ -9,6 +9,7 @@ pub mod Radius
 pub mod Fuel
 pub mod Turns
 pub mod Seeing
+pub mod Spans
 pub mod KeptWalk
 pub mod Ends
 pub mod Walking

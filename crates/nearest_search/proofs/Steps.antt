@@ -16,8 +16,8 @@ use Rattle.tree_shape.proofs.Published.{SoundSubtree}
 use Rattle.log_model.specs.Walk.{Search, away, search_at}
 use Rattle.log_model.proofs.Published.{FitsAbove, point_above, held, same_node}
 use Rattle.nearest_search.specs.declared.pending.Pending.{Pending}
-use Rattle.nearest_search.specs.declared.seen.Seen.{Seen}
 use Rattle.nearest_search.specs.Keeping.{Sheets, IsKept}
+use Rattle.nearest_search.specs.Seeing.{Seen}
 use Rattle.nearest_search.specs.Counts.{total, one_within, within, IsRadius}
 use Rattle.nearest_search.specs.Machine.{objects_below, count_near, count_below, pending_of, pending_root, dists_of, pendings_of, reaches, opens, opens_of, IsFinal, far_above, FitsUp, IsPending, IsClosed, Holds}
 use Rattle.nearest_search.proofs.Totals.{total-append, total-flat_map, total-none, total-permutation, in-permutation, in-permutation_back, within_all, within_more}

@@ -9,8 +9,7 @@ use Rattle.log_model.specs.declared.marks.Record.{Record}
 use Rattle.log_model.specs.declared.marks.Need.{Need}
 use Rattle.log_model.specs.Walk.{search_at, ReachesBy, AreLeast, root_need}
 use Rattle.log_model.specs.declared.traversal.Traversal.{Traversal}
-use Rattle.nearest_search.specs.declared.seen.Seen.{Seen}
-use Rattle.nearest_search.specs.Seeing.{hits_seen, needs_seen, record_seen}
+use Rattle.nearest_search.specs.Seeing.{Seen, hits_seen, needs_seen, record_seen}
 use Rattle.nearest_search.specs.Keeping.{Sheets, AreSeenOf}
 
 -- the walk needs nothing more, or has taken as many pages as there are, or needs a page that is not kept

@@ -13,8 +13,15 @@ use Rattle.log_model.specs.declared.marks.Need.{Need}
 use Rattle.log_model.specs.declared.marks.Record.{Record}
 use Rattle.log_model.specs.Walk.{Search, away, search_at}
 use Rattle.nearest_search.specs.declared.seen.Sight.{Sight}
-use Rattle.nearest_search.specs.declared.seen.Seen.{Seen}
-use Rattle.nearest_search.specs.declared.seen.Seen.TheVariants.{Objects, Subtrees}
+use Rattle.nearest_search.specs.declared.seen.Sheet.{Sheet}
+use Rattle.nearest_search.specs.declared.seen.Sheet.TheVariants as sheet
+
+-- what was seen of the entries of an opened node, in the node's order
+pub data Seen : Type 0 where
+  -- the objects of a leaf
+  Objects : List Sight → Seen
+  -- the subtrees of an inner node
+  Subtrees : List Sight → Seen
 
 -- the distance below which no object of an entry lies, by the distances to the routing point above
 abbrev pub skip_of : Option ℕ → ℕ → ℕ → ℕ
@@ -53,23 +60,33 @@ need_seen x = record { page = x.name; above = Some x.dist }
 
 -- what was seen of the node's entries by a search with a radius of at least rho
 abbrev pub IsSeenOf : Space → List ℕ → ℕ → Option ℕ → Node → Seen → Type 0
-IsSeenOf s q rho above (Leaf es) (Objects xs) = (r : ℕ) × (rho ≤ r) × (xs.items ≡ map (object_sight (search_at s q r) above) es)
+IsSeenOf s q rho above (Leaf es) (Objects xs) = (r : ℕ) × (rho ≤ r) × (xs ≡ map (object_sight (search_at s q r) above) es)
 IsSeenOf s q rho above (Leaf es) (Subtrees xs) = ⊥
 IsSeenOf s q rho above (Inner level es) (Objects xs) = ⊥
-IsSeenOf s q rho above (Inner level es) (Subtrees xs) = (r : ℕ) × (rho ≤ r) × (xs.items ≡ map (subtree_sight (search_at s q r) above) es)
+IsSeenOf s q rho above (Inner level es) (Subtrees xs) = (r : ℕ) × (rho ≤ r) × (xs ≡ map (subtree_sight (search_at s q r) above) es)
+
+-- what a sheet of the program says
+abbrev pub seen_on : Sheet → Seen
+seen_on (sheet.Objects xs) = Objects xs.now
+seen_on (sheet.Subtrees xs) = Subtrees xs.now
+
+-- the sights of a leaf's objects, or else of an inner node's subtrees
+abbrev pub seen_of : Bool → List Sight → Seen
+seen_of true xs = Objects xs
+seen_of false xs = Subtrees xs
 
 -- the entries that were seen, and what the log has of them at a radius
 abbrev pub sights : Seen → List Sight
-sights (Objects xs) = xs.items
-sights (Subtrees xs) = xs.items
+sights (Objects xs) = xs
+sights (Subtrees xs) = xs
 
 abbrev pub hits_seen : ℕ → Seen → List Hit
-hits_seen rho (Objects xs) = map hit_seen (seen_near rho xs.items)
+hits_seen rho (Objects xs) = map hit_seen (seen_near rho xs)
 hits_seen rho (Subtrees xs) = []
 
 abbrev pub needs_seen : ℕ → Seen → List Need
 needs_seen rho (Objects xs) = []
-needs_seen rho (Subtrees xs) = map need_seen (seen_near rho xs.items)
+needs_seen rho (Subtrees xs) = map need_seen (seen_near rho xs)
 
 abbrev pub record_seen : ℕ → ℕ → Seen → Record
 record_seen rho page seen = record { page = page; marks = map (mark_at rho) (sights seen) }

@@ -7,7 +7,7 @@ ghost use Rattle.page_store.specs.Reading.{nodes_of};
 ghost use Rattle.page_store.specs.Shelf.{HoldsSame, IsPassing};
 ghost use Rattle.metric_laws.specs.Counts.{CountsUpTo};
 ghost use Rattle.nearest_search.specs.Machine.{pending_root};
-ghost use Rattle.nearest_search.specs.Keeping.{kept_seen};
+ghost use Rattle.nearest_search.specs.Keeping.{SpansFit, kept_seen};
 ghost use Rattle.nearest_search.specs.Searched.{IsExplored, IsFrugal, HasNearestCause};
 
 use crate::machine::Machine;
@@ -29,8 +29,9 @@ pub struct Explored {
 
 /// Opens subtrees by least possible distance until none is within the radius of the k least distances (VLDB 1997,
 /// section 3.2).
-/// Clauses: what is asked of the caller (`point`, `queue`, `best`, `kept`); the answer and the new state (`ok`); what stays (`metric`,
-/// `same`, `keeps`); the cost (`asked`, `reads`, `measured`); the cause of an error (`cause`, `sound`); faults of the devices (`no_fault`).
+/// Clauses: what is asked of the caller (`point`, `queue`, `best`, `kept`); the answer and the new state (`ok`, `fits`); what stays
+/// (`metric`, `same`, `keeps`); the cost (`asked`, `reads`, `measured`); the cause of an error (`cause`, `sound`); faults of the devices
+/// (`no_fault`).
 pub fn explore<P: Pages, R: Ruler>(
     alloc: Global,
     pages: &mut P,
@@ -42,7 +43,7 @@ pub fn explore<P: Pages, R: Ruler>(
     requires point { IsTrue ((R.M.space (R.metric ruler.old)).is_point q.now) }
     requires queue { machine.old.frontier ≡ pending_root live.now.root ∷ [] }
     requires best { heap_items machine.old.best.heap ≡ [] }
-    requires kept { machine.old.kept ≡ [] }
+    requires kept { machine.old.kept.spans.entries ≡ [] }
     ensures metric { R.metric ruler.new ≡ R.metric ruler.old }
     ensures same { HoldsSame (P.shelf pages.old) (P.shelf pages.new) }
     ensures no_fault { OnOk result ((P.shelf pages.new).faults ≡ (P.shelf pages.old).faults) }
@@ -56,6 +57,7 @@ pub fn explore<P: Pages, R: Ruler>(
           used = R.used ruler.new;
         }) e.rho e.opened
         (R.used ruler.old)) }
+    ensures fits { OnOk result (SpansFit machine.new.kept) }
     ensures cause { IfErr result (HasNearestCause live.now (P.shelf pages.old) (P.shelf pages.new)) }
     ensures asked { CountsUpTo (P.shelf pages.old).asked (P.shelf pages.new).asked live.now.pages }
     ensures reads { (P.shelf pages.new).reads ≤ (P.shelf pages.old).reads + live.now.pages }

@@ -1,12 +1,12 @@
 //! Writes the log of a search.
 
 ghost use Rattle.std.specs.Prelude.{◌≡◌, ◌++◌, [], ◌∷◌, map, reverse, IfOk, OnOk};
-ghost use Rattle.nearest_search.specs.Seeing.{mark_at, seen_near, hit_seen, need_seen};
-ghost use Rattle.nearest_search.specs.Keeping.{kept_seen, KeepsFew};
+ghost use Rattle.nearest_search.specs.Seeing.{mark_at, seen_near, seen_on, hit_seen, need_seen};
+ghost use Rattle.nearest_search.specs.Keeping.{kept_seen, KeepsFew, SpansFit};
 ghost use Rattle.nearest_search.specs.RebuiltLog.{TakesSeen, IsRebuiltLog};
 
 use crate::kept::{Kept, Turn};
-use crate::seen::{Seen, Sight, is_near};
+use crate::seen::{Sheet, Sight, is_near};
 use log_model::{Mark, Need, Record, Traversal};
 use metric_laws::Listed;
 use scan_model::Hit;
@@ -83,18 +83,18 @@ fn take_seen(
     walk: &mut Traversal,
     rho: u64,
     need: Need,
-    seen: &Seen,
+    sheet: Sheet,
 ) -> Result<(), AllocError>
-    ensures { OnOk result (TakesSeen rho need seen.now walk.old walk.new) }
+    ensures { OnOk result (TakesSeen rho need (seen_on sheet.entry) walk.old walk.new) }
 {
-    match seen {
-        Seen::Objects(seen) => {
-            let marks = mark_objects(alloc, &mut walk.hits, rho, seen.as_slice())?;
+    match sheet {
+        Sheet::Objects(seen) => {
+            let marks = mark_objects(alloc, &mut walk.hits, rho, seen)?;
             push_record(&mut walk.records, need.page, marks)
         }
-        Seen::Subtrees(seen) => {
-            push_needs(&mut walk.stack, rho, seen.as_slice())?;
-            let marks = marks_at(alloc, rho, seen.as_slice())?;
+        Sheet::Subtrees(seen) => {
+            push_needs(&mut walk.stack, rho, seen)?;
+            let marks = marks_at(alloc, rho, seen)?;
             push_record(&mut walk.records, need.page, marks)
         }
     }
@@ -108,7 +108,8 @@ pub fn rebuild_log(
     live: &Live,
     kept: &Kept,
 ) -> Result<Traversal, AllocError>
-    requires { KeepsFew (kept_seen kept.now) }
+    requires fits { SpansFit kept.now }
+    requires few { KeepsFew (kept_seen kept.now) }
     ensures { IfOk result (λ walk. IsRebuiltLog rho (kept_seen kept.now) live.now walk.records.items walk.hits.items) }
 {
     let mut walk = Traversal::begin(alloc, live.root)?;
@@ -121,10 +122,10 @@ pub fn rebuild_log(
             page: need.page,
             above: need.above,
         };
-        let Some(seen) = kept.get(turn) else {
+        let Some(sheet) = kept.get(turn) else {
             return Ok(walk);
         };
-        take_seen(alloc, &mut walk, rho, need, seen)?;
+        take_seen(alloc, &mut walk, rho, need, sheet)?;
         opened += 1;
     }
     Ok(walk)

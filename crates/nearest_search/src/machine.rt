@@ -39,7 +39,7 @@ impl Machine {
         ensures queue { IfOk result (λ m. m.frontier ≡ pending_root root ∷ []) }
         ensures count { IfOk result (λ m. m.best.k ≡ k) }
         ensures best { IfOk result (λ m. heap_items m.best.heap ≡ []) }
-        ensures kept { IfOk result (λ m. m.kept ≡ []) }
+        ensures kept { IfOk result (λ m. m.kept.spans.entries ≡ []) }
     {
         let frontier = waiting_root(alloc, root)?;
         Ok(Machine {

@@ -7,17 +7,17 @@ ghost use Rattle.page_store.specs.Shelf.{HoldsSame, HasPageCause};
 ghost use Rattle.log_model.specs.Counts.{entry_count};
 ghost use Rattle.log_model.specs.Walk.{search_at};
 ghost use Rattle.nearest_search.specs.Machine.{dists_of, pendings_of};
-ghost use Rattle.nearest_search.specs.Opened.{leaf_dists, inner_pendings, PassesObjects, PassesSubtrees, Takes, IsOpened};
+ghost use Rattle.nearest_search.specs.Opened.{leaf_dists, inner_pendings, PassesObjects, PassesSubtrees, Takes, Sees, IsOpened};
 ghost use Rattle.metric_laws.specs.Space.{Space};
-ghost use Rattle.nearest_search.specs.Seeing.{object_sight, subtree_sight, IsSeenOf};
-ghost use Rattle.nearest_search.specs.Keeping.{kept_seen};
+ghost use Rattle.nearest_search.specs.Seeing.{object_sight, subtree_sight};
+ghost use Rattle.nearest_search.specs.Keeping.{SpansFit, kept_seen};
 
 use crate::frontier::Frontier;
-use crate::kept::Turn;
+use crate::kept::{Span, Turn};
 use crate::kth::Best;
 use crate::machine::Machine;
 use crate::pending::Pending;
-use crate::seen::{Seen, Sight, look, skip_of};
+use crate::seen::{Sight, look, skip_of};
 use log_model::Probe;
 use metric_laws::Ruler;
 use page_store::{PageFault, Pages};
@@ -148,50 +148,67 @@ pub fn queue_inner<R: Ruler>(
     Ok(())
 }
 
-// Takes in the node of a page that was opened below a routing point at the distance `above`. Returns what was seen of its entries.
+// Takes in the node of a page that was opened below a routing point at the distance `above`. Returns where the sights of its entries
+// stand.
 fn see_node<R: Ruler>(
-    alloc: Global,
     ruler: &mut R,
     probe: Probe,
     above: Option<u64>,
     node: &Node,
     machine: &mut Machine,
-) -> Result<Seen, AllocError>
+) -> Result<Span, AllocError>
     ensures metric { R.metric ruler.new ≡ R.metric ruler.old }
     ensures used { R.used ruler.new ≤ R.used ruler.old + entry_count node.now }
     ensures count { machine.new.best.k ≡ machine.old.best.k }
-    ensures kept { machine.new.kept ≡ machine.old.kept }
-    ensures pushed { IfOk result (λ seen. IsPermutation
+    ensures spans { machine.new.kept.spans ≡ machine.old.kept.spans }
+    ensures pushed { OnOk result (IsPermutation
         (pendings_of (search_at (R.M.space (R.metric ruler.old)) probe.entry.q.now probe.entry.rho) above node.now
         ++ machine.old.frontier) machine.new.frontier) }
-    ensures noted { IfOk result (λ seen. Takes machine.old.best.k (heap_items machine.old.best.heap) (heap_items machine.new.best.heap)
+    ensures noted { OnOk result (Takes machine.old.best.k (heap_items machine.old.best.heap) (heap_items machine.new.best.heap)
         (dists_of (search_at (R.M.space (R.metric ruler.old)) probe.entry.q.now probe.entry.rho) above node.now)) }
-    ensures seen { IfOk result (IsSeenOf (R.M.space (R.metric ruler.old)) probe.entry.q.now probe.entry.rho above node.now) }
+    ensures seen { IfOk result (Sees (R.M.space (R.metric ruler.old)) probe.entry.q.now probe.entry.rho above node.now
+        machine.old.kept.sights.items machine.new.kept.sights.items) }
 {
+    let from = machine.kept.sights.len();
     match node {
         Node::Leaf(entries) => {
-            let mut seen = Vec::with_capacity(alloc, entries.len())?;
-            note_leaf(ruler, probe, above, entries, &mut machine.best, &mut seen)?;
-            Ok(Seen::Objects(seen))
+            machine.kept.sights.reserve(entries.len())?;
+            note_leaf(
+                ruler,
+                probe,
+                above,
+                entries,
+                &mut machine.best,
+                &mut machine.kept.sights,
+            )?;
+            Ok(Span {
+                from,
+                to: machine.kept.sights.len(),
+                is_leaf: true,
+            })
         }
         Node::Inner { entries, .. } => {
-            let mut seen = Vec::with_capacity(alloc, entries.len())?;
+            machine.kept.sights.reserve(entries.len())?;
             queue_inner(
                 ruler,
                 probe,
                 above,
                 entries,
                 &mut machine.frontier,
-                &mut seen,
+                &mut machine.kept.sights,
             )?;
-            Ok(Seen::Subtrees(seen))
+            Ok(Span {
+                from,
+                to: machine.kept.sights.len(),
+                is_leaf: false,
+            })
         }
     }
 }
 
 /// Opens the page of a subtree at a radius, and keeps what was seen of its entries.
-/// Clauses: what changes (`opened`); what stays (`metric`, `same`, `keeps`, `count`); the cost (`used`, `asked`, `reads`); the cause of an
-/// error (`cause`); faults of the devices (`no_fault`).
+/// Clauses: what is asked of the caller, and holds again (`fits`); what changes (`opened`); what stays (`metric`, `same`, `keeps`,
+/// `count`); the cost (`used`, `asked`, `reads`); the cause of an error (`cause`); faults of the devices (`no_fault`).
 pub fn open_page<P: Pages, R: Ruler>(
     alloc: Global,
     pages: &mut P,
@@ -200,6 +217,8 @@ pub fn open_page<P: Pages, R: Ruler>(
     next: Pending,
     machine: &mut Machine,
 ) -> Result<(), PageFault>
+    requires fits { SpansFit machine.old.kept }
+    ensures fits { OnOk result (SpansFit machine.new.kept) }
     ensures metric { R.metric ruler.new ≡ R.metric ruler.old }
     ensures used { R.used ruler.new ≤ R.used ruler.old + 32 }
     ensures same { HoldsSame (P.shelf pages.old) (P.shelf pages.new) }
@@ -225,10 +244,10 @@ pub fn open_page<P: Pages, R: Ruler>(
     ensures cause { IfErr result (HasPageCause (P.shelf pages.old) (P.shelf pages.new) next.page) }
 {
     let node = pages.node(alloc, next.page, None)?;
-    let seen = see_node(alloc, ruler, probe, next.above, node.as_ref(), machine)?;
+    let span = see_node(ruler, probe, next.above, node.as_ref(), machine)?;
     let turn = Turn {
         page: next.page,
         above: next.above,
     };
-    Ok(machine.kept.put(turn, seen)?)
+    Ok(machine.kept.put(turn, span)?)
 }

@@ -21,12 +21,12 @@ pub struct Sight {
 }
 
 /// What is known of the entries of an opened node, in the node's order.
-#[derive(Drop)]
-pub enum Seen {
+#[derive(Clone, Copy)]
+pub enum Sheet<'a> {
     /// The objects of a leaf.
-    Objects(Vec<Sight>),
+    Objects(&'a [Sight]),
     /// The subtrees of an inner node.
-    Subtrees(Vec<Sight>),
+    Subtrees(&'a [Sight]),
 }
 
 impl Sight {

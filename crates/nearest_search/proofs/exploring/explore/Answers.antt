@@ -6,6 +6,7 @@ use Rattle.log_model.proofs.Published.{count_up_more}
 use Rattle.nearest_search.specs.Counts.{IsRadius}
 use Rattle.nearest_search.specs.Keeping.{kept_seen}
 use Rattle.nearest_search.proofs.Explored.{explore_begins, explore_steps, explore_room, explore_passes, explore_cause, explore_repeats}
+use Rattle.nearest_search.proofs.Spans.{none_fit}
 use Rattle.nearest_search.proofs.exploring.explore.Goals as goal
 
 pub loop-next-init : goal.loop-next-init
@@ -15,6 +16,7 @@ loop-next-init g c = record {
   keeps = g.met.P.Pages.keeps_none c.args.pages.now;
   no_fault = refl;
   count = refl;
+  fits = none_fit c.args.machine.now.kept c.requires.kept;
   exploring = rw (c.requires.queue, c.requires.best, c.requires.kept)
       (explore_begins (g.R.M.Metric.space (g.R.Ruler.metric c.args.ruler.now)) (g.met.R.Ruler.axioms c.args.ruler.now) (g.P.Pages.shelf c.args.pages.now) c.args.live.now c.args.q.now c.requires.point c.args.machine.now.best.k (g.R.Ruler.used c.args.ruler.now));
 }
@@ -54,6 +56,7 @@ loop-next-preserved g c = record {
   keeps = g.met.P.Pages.keeps_both c.args.pages.now c.loop-next.pages c.open_page.new.pages c.loop-next.invariant.keeps c.open_page.ensures.keeps;
   no_fault = c.in-Ok.ensures.no_fault ∙ c.loop-next.invariant.no_fault;
   count = c.open_page.ensures.count ∙ c.loop-next.invariant.count;
+  fits = c.in-Ok.ensures.fits;
   exploring = explore_steps (g.R.M.Metric.space (g.R.Ruler.metric c.args.ruler.now)) (g.met.R.Ruler.axioms c.args.ruler.now) (g.P.Pages.shelf c.args.pages.now) c.args.live.now c.args.q.now c.requires.point c.args.machine.now.best.k (g.R.Ruler.used c.args.ruler.now)
       (g.P.Pages.shelf c.loop-next.pages) (record { queue = c.loop-next.machine.frontier; best = heap_items c.loop-next.machine.best.heap; kept = kept_seen c.loop-next.machine.kept; used = g.R.Ruler.used c.loop-next.ruler }) c.loop-next.opened
       c.loop-next.invariant.exploring c.radius-rho.result (subst (λ (k : ℕ). IsRadius k (heap_items c.loop-next.machine.best.heap) c.radius-rho.result) c.loop-next.invariant.count c.radius-rho.ensures)

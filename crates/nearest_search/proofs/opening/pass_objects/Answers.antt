@@ -1,4 +1,4 @@
-use Rattle.std.proofs.Common.{◌≡◌, ◌∙◌, ◌++◌, ◌∷◌, [], ◌<◌, ◌≤◌, length, refl, ap, sym, arith}
+use Rattle.std.proofs.Common.{◌∙◌, ◌++◌, ◌∷◌, [], ◌<◌, length, refl, ap, sym, arith}
 use Rattle.tree_shape.specs.Entries.{leaf_of}
 use Rattle.log_model.specs.Walk.{search_at}
 use Rattle.nearest_search.specs.declared.seen.Sight.{Sight}

@@ -1,2 +1,0 @@
-use Rattle.std.proofs.Common.{arith}
-use Rattle.nearest_search.proofs.opening.note_leaf.Goals as goal
