@@ -85,6 +85,8 @@ pub fn skip_of(above: Option<u64>, stored: u64, radius: u64) -> u64
 }
 
 /// Looks at an entry. Its distance is computed, unless `skip` rules it out at the radius of `probe`.
+// Inside the two loops that call it the sight stays in registers; a call would write `probe` and read the sight in memory each time.
+#[inline(always)]
 pub fn look<R: Ruler>(
     ruler: &mut R,
     probe: Probe,
