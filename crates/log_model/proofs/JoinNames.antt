@@ -19,8 +19,7 @@ use Rattle.log_model.specs.declared.marks.Mark.TheVariants.{Skip, Far, Near}
 use Rattle.log_model.specs.Walk.{near_ones}
 use Rattle.log_model.proofs.Walk.{same_node, map-append}
 use Rattle.scan_model.specs.declared.hit.Pair.{Pair}
-use Rattle.log_model.specs.declared.pairs.Item.{Item}
-use Rattle.log_model.specs.declared.pairs.Item.TheVariants.{Subtree, Object}
+use Rattle.log_model.specs.Items.{Item, Subtree, Object}
 use Rattle.log_model.specs.declared.pairs.JoinNeed.{JoinNeed}
 use Rattle.log_model.specs.declared.marks.JoinRecord.{JoinRecord}
 use Rattle.log_model.specs.JoinWalk.{JoinSearch, rank_of, centre_of, radius_of, page_of, apart_of, Entry, object_entry, subtree_entry, entries_of, opens_right, with_entry, is_object, is_hit, is_need, far_apart, far_stored, within_apart, id_of, dist_of, join_far, join_skips, allows_entry, JoinAllowed, pair_of, join_needs, join_hits, side_of, JoinWalksBy}

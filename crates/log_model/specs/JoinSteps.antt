@@ -2,7 +2,7 @@
 use Rattle.std.specs.Prelude.{ℕ, List, map, filter, Option, Some, if◌then◌else◌}
 use Rattle.metric_laws.specs.Space.{Space}
 use Rattle.scan_model.specs.declared.hit.Pair.{Pair}
-use Rattle.log_model.specs.declared.pairs.Item.{Item}
+use Rattle.log_model.specs.Items.{Item}
 use Rattle.log_model.specs.declared.pairs.JoinNeed.{JoinNeed}
 use Rattle.log_model.specs.JoinWalk.{JoinSearch, centre_of, apart_of, opens_right, is_hit, is_need, pair_of}
 

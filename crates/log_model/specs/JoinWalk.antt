@@ -12,8 +12,7 @@ use Rattle.tree_shape.specs.Tree.{Nodes}
 use Rattle.log_model.specs.declared.marks.Mark.{Mark}
 use Rattle.log_model.specs.declared.marks.Mark.TheVariants.{Skip, Far, Near}
 use Rattle.log_model.specs.declared.marks.JoinRecord.{JoinRecord}
-use Rattle.log_model.specs.declared.pairs.Item.{Item}
-use Rattle.log_model.specs.declared.pairs.Item.TheVariants.{Subtree, Object}
+use Rattle.log_model.specs.Items.{Item, Subtree, Object, object_item, subtree_item}
 use Rattle.log_model.specs.declared.pairs.JoinNeed.{JoinNeed}
 use Rattle.log_model.specs.Walk.{near_ones}
 
@@ -55,10 +54,10 @@ pub record Entry : Type 0 where
   pub stored : ℕ
 
 abbrev pub object_entry : LeafEntry → Entry
-object_entry e = record { item = Object e.id e.point; stored = e.parent }
+object_entry e = record { item = object_item e; stored = e.parent }
 
 abbrev pub subtree_entry : ℕ → InnerEntry → Entry
-subtree_entry level e = record { item = Subtree e.child level (Some e.point) e.radius; stored = e.parent }
+subtree_entry level e = record { item = subtree_item level e; stored = e.parent }
 
 abbrev pub entries_of : Node → List Entry
 entries_of (Leaf es) = map object_entry es

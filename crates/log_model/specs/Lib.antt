@@ -4,6 +4,7 @@ pub mod Walk
 pub mod Counts
 pub mod Steps
 pub mod Sound
+pub mod Items
 pub mod JoinWalk
 pub mod JoinSteps
 pub mod Matches

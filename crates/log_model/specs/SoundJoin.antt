@@ -5,8 +5,7 @@ use Rattle.scan_model.specs.declared.hit.Pair.{Pair}
 use Rattle.tree_shape.specs.declared.live.Live.{Live}
 use Rattle.tree_shape.specs.Tree.{Nodes}
 use Rattle.log_model.specs.declared.logs.JoinLog.{JoinLog}
-use Rattle.log_model.specs.declared.pairs.Item.{Item}
-use Rattle.log_model.specs.declared.pairs.Item.TheVariants.{Subtree}
+use Rattle.log_model.specs.Items.{Item, Subtree}
 use Rattle.log_model.specs.declared.pairs.JoinNeed.{JoinNeed}
 use Rattle.log_model.specs.InOrder.{in_order, pair_before}
 use Rattle.log_model.specs.JoinWalk.{JoinSearch, JoinRule, JoinAllowed, JoinLeast, JoinWalksBy}

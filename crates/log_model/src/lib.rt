@@ -3,6 +3,7 @@
 #![tactic(auto)]
 
 mod answering;
+mod items;
 pub mod laws;
 mod logs;
 mod marking;
@@ -13,10 +14,11 @@ mod pairs;
 mod traversal;
 
 pub use answering::{put_hits_in_order, put_pairs_in_order, radius_of, select};
+pub use items::Item;
 pub use logs::{Found, JoinLog, Joined, Log};
 pub use marking::{Probe, is_ruled_out, mark_inner, mark_leaf};
 pub use marks::{JoinRecord, Mark, Need, Record};
 pub use matching::{JoinProbe, Matches};
 pub use pairing::{is_far, is_skipped};
-pub use pairs::{Item, JoinNeed, SharedItem};
+pub use pairs::JoinNeed;
 pub use traversal::{Traversal, entry_count};

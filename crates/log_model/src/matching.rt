@@ -1,28 +1,126 @@
 //! Tests the entries of an opened node against the other item, and collects the pairs that they make.
 
-ghost use Rattle.std.specs.Prelude.{◌≡◌, OnOk};
+ghost use Rattle.std.specs.Prelude.{◌≡◌, IfOk, OnOk};
+ghost use Rattle.std.specs.Option.{option_copied};
+ghost use Rattle.metric_laws.specs.Counts.{CountsUpTo};
 ghost use Rattle.tree_shape.specs.Entries.{inner_of, leaf_of};
-ghost use Rattle.log_model.specs.JoinWalk.{object_entry, other, radius_of, subtree_entry};
-ghost use Rattle.log_model.specs.JoinSteps.{paired};
-ghost use Rattle.log_model.specs.Matches.{AddsPair};
+ghost use Rattle.log_model.specs.Items.{Item as TheItem, IsItemOf};
+ghost use Rattle.log_model.specs.JoinWalk.{centre_of, id_of, object_entry, opens_right, other, pair_of, radius_of, subtree_entry};
+ghost use Rattle.log_model.specs.JoinSteps.{apart_from, paired};
 
-use crate::{Item, JoinNeed, SharedItem};
+use crate::{Item, JoinNeed};
+use metric_laws::Ruler;
 use scan_model::Pair;
 use std::alloc::{AllocError, Global};
-use tree_shape::{InnerRef, LeafRef};
+use tree_shape::{InnerRef, LeafRef, Node, Shared};
 
 /// What the tests of an opened node's entries need.
 #[derive(Clone, Copy)]
 pub struct JoinProbe<'a> {
-    /// The allocator for copied points.
+    /// The allocator for the lists that are made.
     pub alloc: Global,
     /// The pair whose item of greater rank is opened.
     pub need: &'a JoinNeed,
+    /// The opened node.
+    pub node: &'a Shared<Node>,
     /// The radius that prunes.
     pub rho: u64,
+    /// Whether the right item is opened.
+    pub right: bool,
+    /// The centre of the other item. A root has none.
+    pub centre: Option<&'a [u32]>,
     /// The covering radius of the other item.
     pub reach: u64,
+    ghost opens: { right ≡ opens_right need.now },
+    ghost centred: { option_copied centre ≡ centre_of (other need.now) },
     ghost reaches: { reach ≡ radius_of (other need.now) },
+}
+
+impl<'a> JoinProbe<'a> {
+    /// Makes the probe for the node of the item that the pair opens.
+    pub fn new(alloc: Global, need: &'a JoinNeed, node: &'a Shared<Node>, rho: u64) -> Self
+        ensures need { result.need.now ≡ need.now }
+        ensures node { result.node.now ≡ node.now }
+        ensures rho { result.rho ≡ rho }
+    {
+        let other = need.other();
+        JoinProbe {
+            alloc,
+            need,
+            node,
+            rho,
+            right: need.opens_right(),
+            centre: other.centre(),
+            reach: other.radius(),
+        }
+    }
+
+    /// Returns the item that is not opened.
+    #[inline]
+    pub fn other(&self) -> &'a Item
+        ensures { result.now ≡ other self.now.need.now }
+    {
+        if self.right {
+            &self.need.left
+        } else {
+            &self.need.right
+        }
+    }
+
+    /// Returns the distance of an entry's point from the other item. Returns none where the other item is a root, which has no
+    /// centre; then no distance is computed.
+    pub fn apart_from<R: Ruler>(&self, ruler: &mut R, point: &[u32]) -> Option<u64>
+        ensures metric { R.metric ruler.new ≡ R.metric ruler.old }
+        ensures value { result ≡ apart_from (R.M.space (R.metric ruler.old)) self.now.need.now point.now }
+        ensures counted { CountsUpTo (R.used ruler.old) (R.used ruler.new) 1 }
+    {
+        match self.centre {
+            None => None,
+            Some(centre) if self.right => Some(ruler.dist(centre, point)),
+            Some(centre) => Some(ruler.dist(point, centre)),
+        }
+    }
+
+    /// Returns the pair of `item`, in the place of the opened item, with the other item. `apart` is their distance.
+    pub fn with(&self, item: Item, apart: Option<u64>) -> Result<JoinNeed, AllocError>
+        ensures { IfOk result (λ pair. pair ≡ paired self.now.need.now item apart) }
+    {
+        let other = self.other().share()?;
+        Ok(if self.right {
+            JoinNeed {
+                left: other,
+                right: item,
+                apart,
+            }
+        } else {
+            JoinNeed {
+                left: item,
+                right: other,
+                apart,
+            }
+        })
+    }
+
+    // Returns the answer of the object `id`, in the place of the opened item, with the other item. `apart` is their distance.
+    fn answer(&self, id: u32, apart: Option<u64>) -> Pair
+        ensures { (item : TheItem) → id_of item ≡ id → result ≡ pair_of (paired self.now.need.now item apart) }
+    {
+        let dist = apart.unwrap_or(0);
+        let other = self.other().id();
+        if self.right {
+            Pair {
+                left: other,
+                right: id,
+                dist,
+            }
+        } else {
+            Pair {
+                left: id,
+                right: other,
+                dist,
+            }
+        }
+    }
 }
 
 /// The pairs that entries of opened nodes make with the other item.
@@ -35,42 +133,48 @@ pub struct Matches {
 }
 
 impl Matches {
-    /// Adds the pair of a leaf's object with the other item, at the distance `apart`. Where the other item is an object too, the
-    /// pair is an answer, and no item is made for it. Otherwise the pair is needed.
+    ghost use Rattle.log_model.specs.Matches.{AddsPair};
+
+    /// Adds the pair of the opened leaf's object `index` with the other item, at the distance `apart`. Where the other item is an
+    /// object too, the pair is an answer, and no item is made for it. Otherwise the pair is needed.
     // It stands apart from the loops over entries, as `add_subtree` does: few entries have a pair.
     #[inline(never)]
     pub fn add_object(
         &mut self,
         probe: JoinProbe,
+        index: usize,
         entry: LeafRef,
         apart: Option<u64>,
     ) -> Result<(), AllocError>
+        requires { IsItemOf probe.node.now index (object_entry (leaf_of entry)).item }
         ensures { OnOk result (AddsPair (paired probe.entry.need.now (object_entry (leaf_of entry.entry)).item apart) self.old self.new) }
     {
-        if probe.need.other().is_object() {
-            self.hits.push(probe.need.answer(entry.id, apart))?;
+        if probe.other().is_object() {
+            self.hits.push(probe.answer(entry.id, apart))?;
             return Ok(());
         }
-        let item = SharedItem::new(probe.alloc, Item::of_object(probe.alloc, entry)?)?;
-        self.needs.push(probe.need.with(item, apart)?)?;
+        let item = Item::of_entry(probe.node, index)?;
+        self.needs.push(probe.with(item, apart)?)?;
         Ok(())
     }
 
-    /// Adds the pair of a subtree with the other item, at the distance `apart` of its centre. The subtree is named by an inner node
-    /// of the level `level`. The pair is needed.
+    /// Adds the pair of the opened inner node's subtree `index` with the other item, at the distance `apart` of its centre. The node
+    /// has the level `level`. The pair is needed.
     #[inline(never)]
     pub fn add_subtree(
         &mut self,
         probe: JoinProbe,
         level: u8,
+        index: usize,
         entry: InnerRef,
         apart: Option<u64>,
     ) -> Result<(), AllocError>
+        requires { IsItemOf probe.node.now index (subtree_entry level (inner_of entry)).item }
         ensures { OnOk result (AddsPair
             (paired probe.entry.need.now (subtree_entry level (inner_of entry.entry)).item apart) self.old self.new) }
     {
-        let item = SharedItem::new(probe.alloc, Item::of_subtree(probe.alloc, level, entry)?)?;
-        self.needs.push(probe.need.with(item, apart)?)?;
+        let item = Item::of_entry(probe.node, index)?;
+        self.needs.push(probe.with(item, apart)?)?;
         Ok(())
     }
 }
