@@ -17,8 +17,7 @@ use Rattle.page_store.specs.Reading.{nodes_of}
 use Rattle.page_store.specs.Shelf.{Shelf}
 use Rattle.log_model.specs.declared.marks.Mark.{Mark}
 use Rattle.log_model.specs.declared.marks.Mark.TheVariants.{Skip, Far, Near}
-use Rattle.log_model.specs.declared.pairs.Item.{Item}
-use Rattle.log_model.specs.declared.pairs.Item.TheVariants.{Subtree, Object}
+use Rattle.log_model.specs.Items.{Item, Subtree, Object}
 use Rattle.log_model.specs.declared.pairs.JoinNeed.{JoinNeed}
 use Rattle.log_model.specs.Walk.{near_ones}
 use Rattle.log_model.specs.JoinWalk.{JoinSearch, Entry, object_entry, subtree_entry, entries_of, rank_of, page_of, is_object, opens_right, with_entry, is_need}

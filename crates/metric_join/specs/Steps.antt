@@ -13,8 +13,7 @@ use Rattle.page_store.specs.Shelf.{Shelf, HoldsSame, IsNodeOf, HasPageCause}
 use Rattle.log_model.specs.declared.marks.Mark.{Mark}
 use Rattle.log_model.specs.declared.marks.Mark.TheVariants.{Skip, Far, Near}
 use Rattle.log_model.specs.declared.marks.JoinRecord.{JoinRecord}
-use Rattle.log_model.specs.declared.pairs.Item.{Item}
-use Rattle.log_model.specs.declared.pairs.Item.TheVariants.{Subtree, Object}
+use Rattle.log_model.specs.Items.{Item, Subtree, Object}
 use Rattle.log_model.specs.declared.pairs.JoinNeed.{JoinNeed}
 use Rattle.log_model.specs.Counts.{measured_by, join_measured}
 use Rattle.log_model.specs.Walk.{near_ones}

@@ -5,6 +5,7 @@ ghost use Rattle.tree_shape.specs.declared.entry.InnerEntry.{InnerEntry};
 ghost use Rattle.metric_laws.specs.Counts.{CountsUpTo};
 ghost use Rattle.tree_shape.specs.Entries.{inner_of, leaf_of};
 ghost use Rattle.log_model.specs.Counts.{measured_by};
+ghost use Rattle.log_model.specs.Items.{IsItemOf};
 ghost use Rattle.log_model.specs.declared.marks.Mark.TheVariants.{Skip, Near};
 ghost use Rattle.log_model.specs.JoinWalk.{object_entry, subtree_entry, entries_of, far_stored, join_skips, other, radius_of};
 ghost use Rattle.log_model.specs.JoinSteps.{search_within, apart_from, hits_among, needs_among};
@@ -41,7 +42,7 @@ fn measured_mark<R: Ruler>(ruler: &mut R, probe: JoinProbe, point: &[u32], radiu
         probe.entry.need.now point.now radius }
     ensures apart { result.apart ≡ apart_from (R.M.space (R.metric ruler.old)) probe.entry.need.now point.now }
 {
-    let apart = probe.need.apart_from(ruler, point);
+    let apart = probe.apart_from(ruler, point);
     let mark = if is_far(apart, probe.rho, radius, probe.reach) {
         Mark::Far
     } else {
@@ -134,15 +135,17 @@ fn next_subtree(probe: JoinProbe, level: u8, subtrees: &InnerView, from: usize) 
     at
 }
 
-// Marks an object that is not skipped, and adds its pair where it is marked Near.
+// Marks object `index`, which is not skipped, and adds its pair where it is marked Near.
 #[inline(never)]
 fn measure_object<R: Ruler>(
     ruler: &mut R,
     probe: JoinProbe,
+    index: usize,
     entry: LeafRef,
     opening: &mut Opening,
 ) -> Result<(), AllocError>
-    requires { far_stored probe.need.now.apart (leaf_of entry).parent probe.rho (radius_of (other probe.need.now)) ≡ false }
+    requires item { IsItemOf probe.node.now index (object_entry (leaf_of entry)).item }
+    requires unskipped { far_stored probe.need.now.apart (leaf_of entry).parent probe.rho (radius_of (other probe.need.now)) ≡ false }
     ensures metric { R.metric ruler.new ≡ R.metric ruler.old }
     ensures counted { OnOk result (CountsMarks (R.used ruler.old) (R.used ruler.new) opening.old.marks.items opening.new.marks.items) }
     ensures taken { OnOk result (TakesEntries (search_within (R.M.space (R.metric ruler.old)) probe.entry.rho) probe.entry.need.now
@@ -151,21 +154,25 @@ fn measure_object<R: Ruler>(
     let marked = measured_mark(ruler, probe, entry.point, 0);
     opening.marks.push(marked.mark)?;
     if let Mark::Near = marked.mark {
-        opening.matches.add_object(probe, entry, marked.apart)?;
+        opening
+            .matches
+            .add_object(probe, index, entry, marked.apart)?;
     }
     Ok(())
 }
 
-// Marks a subtree that an inner node of level `level` names and that is not skipped, and adds its pair where it is marked Near.
+// Marks subtree `index` of an inner node of level `level`, which is not skipped, and adds its pair where it is marked Near.
 #[inline(never)]
 fn measure_subtree<R: Ruler>(
     ruler: &mut R,
     probe: JoinProbe,
     level: u8,
+    index: usize,
     entry: InnerRef,
     opening: &mut Opening,
 ) -> Result<(), AllocError>
-    requires { far_stored probe.need.now.apart (inner_of entry).parent probe.rho
+    requires item { IsItemOf probe.node.now index (subtree_entry level (inner_of entry)).item }
+    requires unskipped { far_stored probe.need.now.apart (inner_of entry).parent probe.rho
         ((inner_of entry).radius + radius_of (other probe.need.now)) ≡ false }
     ensures metric { R.metric ruler.new ≡ R.metric ruler.old }
     ensures counted { OnOk result (CountsMarks (R.used ruler.old) (R.used ruler.new) opening.old.marks.items opening.new.marks.items) }
@@ -177,19 +184,20 @@ fn measure_subtree<R: Ruler>(
     if let Mark::Near = marked.mark {
         opening
             .matches
-            .add_subtree(probe, level, entry, marked.apart)?;
+            .add_subtree(probe, level, index, entry, marked.apart)?;
     }
     Ok(())
 }
 
-// Marks the entries of a leaf.
+// Marks the entries of the opened leaf.
 fn mark_leaf<R: Ruler>(
     ruler: &mut R,
     probe: JoinProbe,
     entries: &LeafEntries,
     opening: &mut Opening,
 ) -> Result<(), AllocError>
-    requires { opening.old.marks.items ≡ [] }
+    requires leaf { probe.node.now ≡ Node.Leaf entries.now }
+    requires none { opening.old.marks.items ≡ [] }
     ensures metric { R.metric ruler.new ≡ R.metric ruler.old }
     ensures counted { OnOk result (CountsMarks (R.used ruler.old) (R.used ruler.new) opening.old.marks.items opening.new.marks.items) }
     ensures taken { OnOk result (TakesEntries (search_within (R.M.space (R.metric ruler.old)) probe.entry.rho) probe.entry.need.now
@@ -203,13 +211,13 @@ fn mark_leaf<R: Ruler>(
         if next == objects.len() {
             return Ok(());
         }
-        measure_object(ruler, probe, objects.at(next), opening)?;
+        measure_object(ruler, probe, next, objects.at(next), opening)?;
         at = next + 1;
     }
     Ok(())
 }
 
-// Marks the entries of an inner node of level `level`.
+// Marks the entries of the opened inner node, whose level is `level`.
 fn mark_inner<R: Ruler>(
     ruler: &mut R,
     probe: JoinProbe,
@@ -217,7 +225,8 @@ fn mark_inner<R: Ruler>(
     entries: &InnerEntries,
     opening: &mut Opening,
 ) -> Result<(), AllocError>
-    requires { opening.old.marks.items ≡ [] }
+    requires inner { probe.node.now ≡ Node.Inner level entries.now }
+    requires none { opening.old.marks.items ≡ [] }
     ensures metric { R.metric ruler.new ≡ R.metric ruler.old }
     ensures counted { OnOk result (CountsMarks (R.used ruler.old) (R.used ruler.new) opening.old.marks.items opening.new.marks.items) }
     ensures taken { OnOk result (TakesEntries (search_within (R.M.space (R.metric ruler.old)) probe.entry.rho) probe.entry.need.now
@@ -231,7 +240,7 @@ fn mark_inner<R: Ruler>(
         if next == subtrees.len() {
             return Ok(());
         }
-        measure_subtree(ruler, probe, level, subtrees.at(next), opening)?;
+        measure_subtree(ruler, probe, level, next, subtrees.at(next), opening)?;
         at = next + 1;
     }
     Ok(())
@@ -242,7 +251,6 @@ fn mark_inner<R: Ruler>(
 pub fn open_node<R: Ruler>(
     ruler: &mut R,
     probe: JoinProbe,
-    node: &Node,
     needs: Vec<JoinNeed>,
 ) -> Result<Opening, AllocError>
     requires { needs.items ≡ [] }
@@ -250,14 +258,17 @@ pub fn open_node<R: Ruler>(
     ensures counted { IfOk result (λ opening. CountsUpTo (R.used ruler.old) (R.used ruler.new) (measured_by opening.marks.items)) }
     ensures marks { IfOk result (λ opening.
         opening.marks.items ≡ marks_for (search_within (R.M.space (R.metric ruler.old)) probe.entry.rho) probe.entry.need.now
-        (entries_of node.now)) }
+        (entries_of probe.entry.node.now)) }
     ensures hits { IfOk result (λ opening.
         opening.matches.hits.items ≡ hits_among
-        (pairs_for (search_within (R.M.space (R.metric ruler.old)) probe.entry.rho) probe.entry.need.now (entries_of node.now))) }
+        (pairs_for (search_within (R.M.space (R.metric ruler.old)) probe.entry.rho) probe.entry.need.now
+        (entries_of probe.entry.node.now))) }
     ensures needs { IfOk result (λ opening.
         opening.matches.needs.items ≡ needs_among
-        (pairs_for (search_within (R.M.space (R.metric ruler.old)) probe.entry.rho) probe.entry.need.now (entries_of node.now))) }
+        (pairs_for (search_within (R.M.space (R.metric ruler.old)) probe.entry.rho) probe.entry.need.now
+        (entries_of probe.entry.node.now))) }
 {
+    let node = probe.node.as_ref();
     let mut opening = Opening::new(probe.alloc, entry_count(node), needs)?;
     match node {
         Node::Leaf(entries) => mark_leaf(ruler, probe, entries, &mut opening)?,

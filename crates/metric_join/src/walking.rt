@@ -80,7 +80,7 @@ impl JoinWalk {
             }) ∷ []) }
     {
         let roots = Waiting {
-            need: JoinNeed::of_roots(alloc, left, right)?,
+            need: JoinNeed::of_roots(left, right),
             left_room: left.pages,
             right_room: right.pages,
         };
@@ -231,14 +231,9 @@ fn open_pair<P: Pages, Q: Pages, R: Ruler>(
     ensures cause { IfErr result (HasStopped (P.shelf left.old) (P.shelf left.new) (Q.shelf right.old) (Q.shelf right.new) waiting) }
 {
     let node = opened_node(alloc, left, right, &waiting)?;
-    let probe = JoinProbe {
-        alloc,
-        need: &waiting.need,
-        rho: walk.rho,
-        reach: waiting.need.other().radius(),
-    };
+    let probe = JoinProbe::new(alloc, &waiting.need, &node, walk.rho);
     let needs = mem::replace(&mut walk.spare, Spare::of(Vec::new(alloc))).into_list();
-    let opening = open_node(ruler, probe, node.as_ref(), needs)?;
+    let opening = open_node(ruler, probe, needs)?;
     walk.take(&waiting, opening)?;
     Ok(())
 }

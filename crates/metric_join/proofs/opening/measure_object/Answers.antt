@@ -21,7 +21,7 @@ returns-in_ok-add_object-clause-taken g c =
     let n : JoinNeed = c.args.probe.need.now in
     let marked = c.measured_mark-marked in
     let bare : 0 + radius_of (other n) ≡ radius_of (other n) = omega arith in
-    let unskipped : far_stored n.apart c.args.entry.parent j.rho (0 + radius_of (other n)) ≡ false = rw bare c.requires in
+    let unskipped : far_stored n.apart c.args.entry.parent j.rho (0 + radius_of (other n)) ≡ false = rw bare c.requires.unskipped in
     takes_pair j n (object_entry (leaf_of c.args.entry)) c.args.entry.point.now refl marked.result.mark
     (least_unskipped j n c.args.entry.point.now c.args.entry.parent 0 marked.result.mark unskipped marked.ensures.mark)
     c.args.opening.now (record { marks = c.push.new.self; matches = c.add_object.new.self }) c.in_ok-push.ensures.items
@@ -34,7 +34,7 @@ returns-in_default g c =
     let n : JoinNeed = c.args.probe.need.now in
     let marked = c.measured_mark-marked in
     let bare : 0 + radius_of (other n) ≡ radius_of (other n) = omega arith in
-    let unskipped : far_stored n.apart c.args.entry.parent j.rho (0 + radius_of (other n)) ≡ false = rw bare c.requires in
+    let unskipped : far_stored n.apart c.args.entry.parent j.rho (0 + radius_of (other n)) ≡ false = rw bare c.requires.unskipped in
     let some = marked.ensures.counted in
     record {
       metric = marked.ensures.metric;

@@ -20,7 +20,7 @@ returns-in_ok-add_subtree-clause-taken g c =
     let j : JoinSearch = search_within (g.R.M.Metric.space (g.R.Ruler.metric c.args.ruler.now)) c.args.probe.rho in
     let n : JoinNeed = c.args.probe.need.now in
     let marked = c.measured_mark-marked in
-    let unskipped : far_stored n.apart c.args.entry.parent j.rho (c.args.entry.radius + radius_of (other n)) ≡ false = c.requires in
+    let unskipped : far_stored n.apart c.args.entry.parent j.rho (c.args.entry.radius + radius_of (other n)) ≡ false = c.requires.unskipped in
     takes_pair j n (subtree_entry c.args.level (inner_of c.args.entry)) c.args.entry.point.now refl marked.result.mark
     (least_unskipped j n c.args.entry.point.now c.args.entry.parent c.args.entry.radius marked.result.mark unskipped marked.ensures.mark)
     c.args.opening.now (record { marks = c.push.new.self; matches = c.add_subtree.new.self }) c.in_ok-push.ensures.items
@@ -32,7 +32,7 @@ returns-in_default g c =
     let j : JoinSearch = search_within (g.R.M.Metric.space (g.R.Ruler.metric c.args.ruler.now)) c.args.probe.rho in
     let n : JoinNeed = c.args.probe.need.now in
     let marked = c.measured_mark-marked in
-    let unskipped : far_stored n.apart c.args.entry.parent j.rho (c.args.entry.radius + radius_of (other n)) ≡ false = c.requires in
+    let unskipped : far_stored n.apart c.args.entry.parent j.rho (c.args.entry.radius + radius_of (other n)) ≡ false = c.requires.unskipped in
     let some = marked.ensures.counted in
     record {
       metric = marked.ensures.metric;
