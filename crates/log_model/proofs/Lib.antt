@@ -6,7 +6,6 @@ pub mod Walk
 pub mod Least
 pub mod ByScan
 pub mod LeastLog
-pub mod Entries
 pub mod JoinSteps
 pub mod JoinNames
 pub mod JoinScan

@@ -16,8 +16,6 @@ pub use Rattle.log_model.proofs.Least.{object_allowed, zip-map, least_allowed, w
 pub use Rattle.log_model.proofs.ByScan.{AreIds, length-points, id_below, at_id}
 -- On a sound tree a query has exactly one least log.
 pub use Rattle.log_model.proofs.LeastLog.{root_names, sound_complete, least_sound}
--- An entry of a node is an item of it.
-pub use Rattle.log_model.proofs.Entries.{leaf_item, inner_item}
 -- The pairs that an opened node leaves.
 pub use Rattle.log_model.proofs.JoinSteps.{paired_same, hits_append, needs_append}
 -- A sound join walk names the pairs within the radius.

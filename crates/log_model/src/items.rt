@@ -30,7 +30,7 @@ enum Held {
     },
 }
 
-/// What a join pairs: a root, or an entry of a node that was read. The item holds that node. So another item of the node, and another
+/// What a join pairs: a root, or an entry of a node that was read. The item holds that node, so another item of the node, or another
 /// holder of the item, copies nothing. Contracts see the item.
 #[derive(Drop)]
 pub struct Item {
