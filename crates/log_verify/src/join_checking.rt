@@ -6,6 +6,7 @@ ghost use Rattle.tree_shape.specs.declared.entry.InnerEntry.{InnerEntry};
 ghost use Rattle.metric_laws.specs.Counts.{CountsUpTo};
 ghost use Rattle.tree_shape.specs.Entries.{leaf_of, inner_of};
 ghost use Rattle.log_model.specs.Counts.{entry_count, measured_by};
+ghost use Rattle.log_model.specs.Items.{IsItemOf};
 ghost use Rattle.log_model.specs.Walk.{near_ones};
 ghost use Rattle.log_model.specs.JoinWalk.{allows_entry, far_stored, other, radius_of, object_entry, subtree_entry, join_hits, join_needs, within_apart};
 ghost use Rattle.log_model.specs.JoinSteps.{apart_from, search_within, hits_among, needs_among, paired};
@@ -44,7 +45,7 @@ fn apart_from<R: Ruler>(ruler: &mut R, probe: JoinProbe, point: &[u32]) -> Optio
     ensures value { result ≡ apart_from (R.M.space (R.metric ruler.old)) probe.entry.need.now point.now }
     ensures counted { CountsUpTo (R.used ruler.old) (R.used ruler.new) 1 }
 {
-    probe.need.apart_from(ruler, point)
+    probe.apart_from(ruler, point)
 }
 
 // Returns the first object from object `from` on that is not rightly marked Skip, or the number of objects. Most objects are rightly
@@ -140,7 +141,7 @@ fn check_object<R: Ruler>(
         Mark::Near => {
             let apart = apart_from(ruler, probe, entry.point);
             JoinChecked {
-                allowed: !probe.need.other().is_object() || is_within(apart, probe.rho),
+                allowed: !probe.other().is_object() || is_within(apart, probe.rho),
                 apart,
             }
         }
@@ -189,41 +190,45 @@ fn check_subtree<R: Ruler>(
     }
 }
 
-// Adds the pair of an object that is marked Near.
+// Adds the pair of object `index`, where it is marked Near.
 fn name_object(
     probe: JoinProbe,
     named: &mut Matches,
+    index: usize,
     entry: LeafRef,
     mark: Mark,
     apart: Option<u64>,
 ) -> Result<(), AllocError>
+    requires { IsItemOf probe.node.now index (object_entry (leaf_of entry)).item }
     ensures hits { OnOk result (named.new.hits.items ≡ named.old.hits.items ++ hits_among
         (near_ones (paired probe.entry.need.now (object_entry (leaf_of entry.entry)).item apart ∷ []) (mark ∷ []))) }
     ensures needs { OnOk result (named.new.needs.items ≡ named.old.needs.items ++ needs_among
         (near_ones (paired probe.entry.need.now (object_entry (leaf_of entry.entry)).item apart ∷ []) (mark ∷ []))) }
 {
     match mark {
-        Mark::Near => named.add_object(probe, entry, apart),
+        Mark::Near => named.add_object(probe, index, entry, apart),
         Mark::Skip | Mark::Far => Ok(()),
     }
 }
 
-// Adds the pair of a subtree that is marked Near.
+// Adds the pair of subtree `index` of an inner node of level `level`, where it is marked Near.
 fn name_subtree(
     probe: JoinProbe,
     named: &mut Matches,
     level: u8,
+    index: usize,
     entry: InnerRef,
     mark: Mark,
     apart: Option<u64>,
 ) -> Result<(), AllocError>
+    requires { IsItemOf probe.node.now index (subtree_entry level (inner_of entry)).item }
     ensures hits { OnOk result (named.new.hits.items ≡ named.old.hits.items ++ hits_among
         (near_ones (paired probe.entry.need.now (subtree_entry level (inner_of entry.entry)).item apart ∷ []) (mark ∷ []))) }
     ensures needs { OnOk result (named.new.needs.items ≡ named.old.needs.items ++ needs_among
         (near_ones (paired probe.entry.need.now (subtree_entry level (inner_of entry.entry)).item apart ∷ []) (mark ∷ []))) }
 {
     match mark {
-        Mark::Near => named.add_subtree(probe, level, entry, apart),
+        Mark::Near => named.add_subtree(probe, level, index, entry, apart),
         Mark::Skip | Mark::Far => Ok(()),
     }
 }
@@ -236,6 +241,7 @@ fn check_leaf<R: Ruler>(
     marks: &[Mark],
     named: &mut Matches,
 ) -> Result<Option<u32>, AllocError>
+    requires leaf { probe.node.now ≡ Node.Leaf entries.now }
     requires long { length marks.now ≡ length entries.now }
     requires few { length entries.now < 2 ^ 32 }
     ensures metric { R.metric ruler.new ≡ R.metric ruler.old }
@@ -258,7 +264,7 @@ fn check_leaf<R: Ruler>(
         if !checked.allowed {
             return Ok(Some(at as u32));
         }
-        name_object(probe, named, entry, marks[at], checked.apart)?;
+        name_object(probe, named, at, entry, marks[at], checked.apart)?;
         at = pass_objects(probe, &objects, marks, at + 1);
     }
     Ok(None)
@@ -273,6 +279,7 @@ fn check_inner<R: Ruler>(
     marks: &[Mark],
     named: &mut Matches,
 ) -> Result<Option<u32>, AllocError>
+    requires inner { probe.node.now ≡ Node.Inner level entries.now }
     requires long { length marks.now ≡ length entries.now }
     requires few { length entries.now < 2 ^ 32 }
     ensures metric { R.metric ruler.new ≡ R.metric ruler.old }
@@ -297,36 +304,35 @@ fn check_inner<R: Ruler>(
         if !checked.allowed {
             return Ok(Some(at as u32));
         }
-        name_subtree(probe, named, level, entry, marks[at], checked.apart)?;
+        name_subtree(probe, named, level, at, entry, marks[at], checked.apart)?;
         at = pass_subtrees(probe, &subtrees, marks, at + 1);
     }
     Ok(None)
 }
 
-// Returns the first entry of a node whose mark is not allowed. Where there is none, adds the answers and the pairs that the marks
-// name.
+// Returns the first entry of the opened node whose mark is not allowed. Where there is none, adds the answers and the pairs that the
+// marks name.
 pub fn check_node<R: Ruler>(
     ruler: &mut R,
     probe: JoinProbe,
-    node: &Node,
     marks: &[Mark],
     named: &mut Matches,
 ) -> Result<Option<u32>, AllocError>
-    requires long { length marks.now ≡ entry_count node.now }
-    requires few { entry_count node.now < 2 ^ 32 }
+    requires long { length marks.now ≡ entry_count probe.node.now }
+    requires few { entry_count probe.node.now < 2 ^ 32 }
     ensures metric { R.metric ruler.new ≡ R.metric ruler.old }
     ensures wrong { IfOk result (λ w.
-        w ≡ join_wrong_in (search_within (R.M.space (R.metric ruler.old)) probe.entry.rho) probe.entry.need.now node.now
+        w ≡ join_wrong_in (search_within (R.M.space (R.metric ruler.old)) probe.entry.rho) probe.entry.need.now probe.entry.node.now
         marks.now) }
     ensures hits { IfOk result (λ w.
         IfNone w (named.new.hits.items ≡ named.old.hits.items ++ join_hits
-        (search_within (R.M.space (R.metric ruler.old)) probe.entry.rho) probe.entry.need.now node.now marks.now)) }
+        (search_within (R.M.space (R.metric ruler.old)) probe.entry.rho) probe.entry.need.now probe.entry.node.now marks.now)) }
     ensures needs { IfOk result (λ w.
         IfNone w (named.new.needs.items ≡ named.old.needs.items ++ join_needs
-        (search_within (R.M.space (R.metric ruler.old)) probe.entry.rho) probe.entry.need.now node.now marks.now)) }
+        (search_within (R.M.space (R.metric ruler.old)) probe.entry.rho) probe.entry.need.now probe.entry.node.now marks.now)) }
     ensures few_counted { CountsUpTo (R.used ruler.old) (R.used ruler.new) (measured_by marks.now) }
 {
-    match node {
+    match probe.node.as_ref() {
         Node::Leaf(entries) => check_leaf(ruler, probe, entries, marks, named),
         Node::Inner { level, entries } => {
             check_inner(ruler, probe, *level, entries, marks, named)

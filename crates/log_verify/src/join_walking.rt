@@ -41,7 +41,7 @@ impl JoinWalk {
         ensures hits { IfOk result (λ walk. walk.named.hits.items ≡ []) }
         ensures stack { IfOk result (λ walk. walk.stack.items ≡ root_pair left.now right.now ∷ []) }
     {
-        let roots = JoinNeed::of_roots(alloc, left, right)?;
+        let roots = JoinNeed::of_roots(left, right);
         let mut stack = Vec::new(alloc);
         stack.push(roots)?;
         Ok(JoinWalk {
@@ -165,20 +165,14 @@ fn take_record<P: Pages, Q: Pages, R: Ruler>(
     if !is_of(&need, told) {
         return Err(JoinVerdict::WrongPage(walk.taken));
     }
-    let shared = opened_node(alloc, left, right, &need)?;
-    let node = shared.as_ref();
+    let node = opened_node(alloc, left, right, &need)?;
     let marks = told.marks.as_slice();
-    if marks.len() != entry_count(node) {
+    if marks.len() != entry_count(node.as_ref()) {
         return Err(JoinVerdict::WrongCount(walk.taken));
     }
-    let probe = JoinProbe {
-        alloc,
-        need: &need,
-        rho: walk.rho,
-        reach: need.other().radius(),
-    };
+    let probe = JoinProbe::new(alloc, &need, &node, walk.rho);
     walk.named.needs.clear();
-    match check_node(ruler, probe, node, marks, &mut walk.named)? {
+    match check_node(ruler, probe, marks, &mut walk.named)? {
         None => {
             put_on_top(&mut walk.stack, &mut walk.named.needs)?;
             walk.taken += 1;

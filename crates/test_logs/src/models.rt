@@ -1,10 +1,14 @@
+ghost use Rattle.std.specs.Prelude.{◌≡◌};
+ghost use Rattle.log_model.specs.Counts.{entry_count};
+
 use log_model::{
-    Item, JoinNeed, SharedItem, is_far, is_skipped, laws, put_hits_in_order, put_pairs_in_order,
+    Item, JoinNeed, JoinProbe, is_far, is_skipped, laws, put_hits_in_order, put_pairs_in_order,
     radius_of, select,
 };
-use metric_laws::{BOUND, Listed, Point};
+use metric_laws::{BOUND, Point};
 use scan_model::{Hit, Pair, Query};
 use std::process::Abort;
+use tree_shape::{InnerEntries, InnerEntry, LeafEntries, LeafEntry, Live, Node, Shared};
 
 // Ends a test in which `is_so` is false.
 pub(crate) fn holds(rt: &impl Abort, is_so: bool) {
@@ -83,35 +87,63 @@ fn pairs_are_in_order_and_each_once(rt: HostRuntime) {
     holds(&rt, pairs.as_slice() == [FIRST, SECOND].as_slice());
 }
 
+// States a tree of height 1, whose root is page 8.
+const TREE: Live = Live {
+    side: 0,
+    generation: 1,
+    root: 8,
+    height: 1,
+    count: 1,
+    pages: 9,
+};
+
+// Makes a leaf that holds the object 7.
+fn small_leaf(rt: &(impl AllocGlobal + Abort)) -> Node
+    ensures { entry_count result ≡ 1 }
+{
+    let object = LeafEntry {
+        id: 7,
+        tag: 0,
+        parent: 0,
+        point: Point::new(rt.alloc(), &[5]).expect(rt, "memory"),
+    };
+    let objects = vec![in rt.alloc(); object].expect(rt, "memory");
+    Node::Leaf(LeafEntries::new(objects))
+}
+
+// Makes an inner node of level 2 that names the subtree on page 3.
+fn small_inner(rt: &(impl AllocGlobal + Abort)) -> Node
+    ensures { entry_count result ≡ 1 }
+{
+    let subtree = InnerEntry {
+        child: 3,
+        radius: 9,
+        parent: 0,
+        point: Point::new(rt.alloc(), &[1]).expect(rt, "memory"),
+    };
+    let subtrees = vec![in rt.alloc(); subtree].expect(rt, "memory");
+    Node::Inner {
+        level: 2,
+        entries: InnerEntries::new(subtrees),
+    }
+}
+
 #[test]
 fn the_item_of_greater_rank_is_opened(rt: HostRuntime) {
-    let object = Item::Object {
-        id: 7,
-        point: Listed::new(vec![in rt.alloc(); 5].expect(&rt, "memory")),
-    };
-    let subtree = Item::Subtree {
-        page: 3,
-        rank: 2,
-        centre: Some(Listed::new(vec![in rt.alloc(); 1].expect(&rt, "memory"))),
-        radius: 9,
-    };
+    let leaf = Shared::new(rt.alloc(), small_leaf(&rt)).expect(&rt, "memory");
+    let inner = Shared::new(rt.alloc(), small_inner(&rt)).expect(&rt, "memory");
     let pair = JoinNeed {
-        left: SharedItem::new(rt.alloc(), object).expect(&rt, "memory"),
-        right: SharedItem::new(rt.alloc(), subtree).expect(&rt, "memory"),
+        left: Item::of_entry(&leaf, 0).expect(&rt, "memory"),
+        right: Item::of_entry(&inner, 0).expect(&rt, "memory"),
         apart: Some(4),
     };
     assert!(rt; pair.opens_right());
     assert!(rt; pair.opened().page() == 3);
     assert!(rt; pair.opened().radius() == 9);
     assert!(rt; pair.other().is_object());
-    let root = Item::Subtree {
-        page: 8,
-        rank: 2,
-        centre: None,
-        radius: 0,
-    };
-    let root = SharedItem::new(rt.alloc(), root).expect(&rt, "memory");
-    let next = pair.with(root, None).expect(&rt, "memory");
+    let roots = JoinNeed::of_roots(&TREE, &TREE);
+    let probe = JoinProbe::new(rt.alloc(), &pair, &leaf, 9);
+    let next = probe.with(roots.right, None).expect(&rt, "memory");
     assert!(rt; next.opens_right());
     assert!(rt; next.opened().page() == 8);
     assert!(rt; next.other().id() == 7);
