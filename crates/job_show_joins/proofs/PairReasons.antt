@@ -7,8 +7,7 @@ use Rattle.metric_laws.specs.Pruning.{gap}
 use Rattle.metric_laws.specs.Space.{Space}
 use Rattle.log_model.specs.declared.marks.Mark.{Mark}
 use Rattle.log_model.specs.declared.marks.Mark.TheVariants.{Skip, Far, Near}
-use Rattle.log_model.specs.declared.pairs.Item.{Item}
-use Rattle.log_model.specs.declared.pairs.Item.TheVariants.{Subtree, Object}
+use Rattle.log_model.specs.Items.{Item, Subtree, Object}
 use Rattle.log_model.specs.declared.pairs.JoinNeed.{JoinNeed}
 use Rattle.log_model.specs.JoinWalk.{Entry, JoinSearch, allows_entry, apart_of, centre_of, far_apart, far_stored, is_hit, is_object, opens_right, other, radius_of, with_entry, within_apart}
 use Rattle.job_show.specs.Reasons.{radius_or_zero}

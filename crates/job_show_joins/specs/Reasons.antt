@@ -4,8 +4,7 @@ use Rattle.metric_laws.specs.Pruning.{gap}
 use Rattle.rows_text.specs.Texts.{space}
 use Rattle.log_model.specs.declared.marks.Mark.{Mark}
 use Rattle.log_model.specs.declared.marks.Mark.TheVariants.{Skip, Far, Near}
-use Rattle.log_model.specs.declared.pairs.Item.{Item}
-use Rattle.log_model.specs.declared.pairs.Item.TheVariants.{Subtree, Object}
+use Rattle.log_model.specs.Items.{Item, Subtree, Object}
 use Rattle.log_model.specs.declared.pairs.JoinNeed.{JoinNeed}
 use Rattle.log_model.specs.JoinWalk.{Entry, JoinSearch, other, with_entry}
 use Rattle.job_show.specs.Reasons.{gap_text, plus_radius, radius_or_zero, sign}

@@ -9,8 +9,7 @@ use Rattle.page_store.specs.Reading.{Read}
 use Rattle.log_model.specs.declared.marks.Mark.{Mark}
 use Rattle.log_model.specs.declared.marks.JoinRecord.{JoinRecord}
 use Rattle.log_model.specs.declared.pairs.JoinNeed.{JoinNeed}
-use Rattle.log_model.specs.declared.pairs.Item.{Item}
-use Rattle.log_model.specs.declared.pairs.Item.TheVariants.{Subtree, Object}
+use Rattle.log_model.specs.Items.{Item, Subtree, Object}
 use Rattle.log_model.specs.JoinWalk.{Entry, JoinSearch, centre_of, entries_of, join_needs, opened, opens_right, other, page_of}
 use Rattle.log_verify.specs.JoinJudged.{is_of, join_wrong_in, read_of}
 use Rattle.job_join.specs.Lines.{side_name}

@@ -2,6 +2,7 @@
 ghost use Rattle.std.specs.Prelude.{◌≡◌, ◌++◌, ◌+◌, ◌<◌, ◌^◌, [], ◌∷◌, OnOk, IfOk};
 ghost use Rattle.tree_shape.specs.Entries.{inner_of, leaf_of};
 ghost use Rattle.log_model.specs.declared.marks.Mark.TheVariants.{Skip, Near};
+ghost use Rattle.log_model.specs.Items.{IsItemOf};
 ghost use Rattle.log_model.specs.Walk.{near_ones};
 ghost use Rattle.log_model.specs.JoinWalk.{allows_entry, object_entry, subtree_entry, with_entry, within_apart};
 ghost use Rattle.log_model.specs.JoinSteps.{apart_from, needs_among, paired};
@@ -12,16 +13,17 @@ ghost use Rattle.job_show_joins.specs.Steps.{search_by};
 use crate::reasons::{item_radius, push_pair_reason};
 use crate::{PairComing, PairReach};
 use job_show::push_place;
-use log_model::{JoinNeed, JoinProbe, Mark, Matches, is_far, is_skipped};
+use log_model::{JoinProbe, Mark, Matches, is_far, is_skipped};
 use metric_laws::Meter;
 use metric_mix::MixSpace;
+use page_store::SharedNode;
 use std::alloc::{AllocError, Global};
 use tree_shape::{InnerRef, LeafRef};
 
 // What a walk searches by.
 #[derive(Clone, Copy)]
 pub struct PairSearch {
-    // The allocator for copied points.
+    // The allocator for what is collected.
     pub alloc: Global,
     // The space of both trees.
     pub space: MixSpace,
@@ -36,6 +38,24 @@ pub struct PairGauge<'a> {
     pub search: PairSearch,
     // The pair whose item of greater rank is opened.
     pub coming: &'a PairComing,
+    // The opened node.
+    pub node: &'a SharedNode,
+}
+
+impl<'a> PairGauge<'a> {
+    // Returns what the tests of the node's entries need.
+    fn probe(&self) -> JoinProbe<'a>
+        ensures need { result.need.now ≡ self.now.coming.now.need }
+        ensures node { result.node.now ≡ self.now.node.now }
+        ensures rho { result.rho ≡ self.now.search.rho }
+    {
+        JoinProbe::new(
+            self.search.alloc,
+            &self.coming.need,
+            self.node,
+            self.search.rho,
+        )
+    }
 }
 
 // The test of a mark.
@@ -58,11 +78,11 @@ fn is_within(apart: Option<u64>, rho: u64) -> bool
 }
 
 // Returns the distance of an entry's point from the other item, where that has a centre.
-fn apart_from(space: MixSpace, need: &JoinNeed, point: &[u32]) -> Option<u64>
-    ensures { result ≡ apart_from (space_in space) need.now point.now }
+fn apart_from(space: MixSpace, probe: JoinProbe, point: &[u32]) -> Option<u64>
+    ensures { result ≡ apart_from (space_in space) probe.entry.need.now point.now }
 {
     let mut ruler = Meter::new(space);
-    need.apart_from(&mut ruler, point)
+    probe.apart_from(&mut ruler, point)
 }
 
 // Tests the mark of an object.
@@ -73,25 +93,23 @@ fn test_object(gauge: PairGauge, entry: LeafRef, mark: Mark) -> PairTested
         result.apart ≡ (with_entry (space_in gauge.entry.search.space)
         gauge.entry.coming.now.need (object_entry (leaf_of entry.entry))).apart }
 {
-    let need = &gauge.coming.need;
-    let reach = need.other().radius();
-    let point = entry.point;
+    let probe = gauge.probe();
     match mark {
         Mark::Skip => PairTested {
-            allowed: is_skipped(need.apart, entry.parent, gauge.search.rho, 0, reach),
+            allowed: is_skipped(probe.need.apart, entry.parent, probe.rho, 0, probe.reach),
             apart: None,
         },
         Mark::Far => {
-            let apart = apart_from(gauge.search.space, need, point);
+            let apart = apart_from(gauge.search.space, probe, entry.point);
             PairTested {
-                allowed: is_far(apart, gauge.search.rho, 0, reach),
+                allowed: is_far(apart, probe.rho, 0, probe.reach),
                 apart,
             }
         }
         Mark::Near => {
-            let apart = apart_from(gauge.search.space, need, point);
+            let apart = apart_from(gauge.search.space, probe, entry.point);
             PairTested {
-                allowed: !need.other().is_object() || is_within(apart, gauge.search.rho),
+                allowed: !probe.other().is_object() || is_within(apart, probe.rho),
                 apart,
             }
         }
@@ -106,30 +124,28 @@ fn test_subtree(gauge: PairGauge, level: u8, entry: InnerRef, mark: Mark) -> Pai
         result.apart ≡ (with_entry (space_in gauge.entry.search.space)
         gauge.entry.coming.now.need (subtree_entry level (inner_of entry.entry))).apart }
 {
-    let need = &gauge.coming.need;
-    let reach = need.other().radius();
-    let point = entry.point;
+    let probe = gauge.probe();
     match mark {
         Mark::Skip => PairTested {
             allowed: is_skipped(
-                need.apart,
+                probe.need.apart,
                 entry.parent,
-                gauge.search.rho,
+                probe.rho,
                 entry.radius,
-                reach,
+                probe.reach,
             ),
             apart: None,
         },
         Mark::Far => {
-            let apart = apart_from(gauge.search.space, need, point);
+            let apart = apart_from(gauge.search.space, probe, entry.point);
             PairTested {
-                allowed: is_far(apart, gauge.search.rho, entry.radius, reach),
+                allowed: is_far(apart, probe.rho, entry.radius, probe.reach),
                 apart,
             }
         }
         Mark::Near => PairTested {
             allowed: true,
-            apart: apart_from(gauge.search.space, need, point),
+            apart: apart_from(gauge.search.space, probe, entry.point),
         },
     }
 }
@@ -193,49 +209,41 @@ pub fn show_subtree(
     Ok(tested)
 }
 
-// Adds the pair of an object that is marked Near, at the distance `apart`.
+// Adds the pair of object `index`, where it is marked Near, at the distance `apart`.
 pub fn name_object(
     gauge: PairGauge,
+    index: usize,
     entry: LeafRef,
     mark: Mark,
     apart: Option<u64>,
     named: &mut Matches,
 ) -> Result<(), AllocError>
+    requires { IsItemOf gauge.node.now index (object_entry (leaf_of entry)).item }
     ensures { OnOk result (named.new.needs.items ≡ named.old.needs.items ++ needs_among
         (near_ones (paired gauge.entry.coming.now.need (object_entry (leaf_of entry.entry)).item apart ∷ []) (mark ∷ []))) }
 {
-    let probe = JoinProbe {
-        alloc: gauge.search.alloc,
-        need: &gauge.coming.need,
-        rho: gauge.search.rho,
-        reach: gauge.coming.need.other().radius(),
-    };
     match mark {
-        Mark::Near => named.add_object(probe, entry, apart),
+        Mark::Near => named.add_object(gauge.probe(), index, entry, apart),
         Mark::Skip | Mark::Far => Ok(()),
     }
 }
 
-// Adds the pair of a subtree that is marked Near, at the distance `apart`.
+// Adds the pair of subtree `index` of an inner node of level `level`, where it is marked Near, at the distance `apart`.
 pub fn name_subtree(
     gauge: PairGauge,
     level: u8,
+    index: usize,
     entry: InnerRef,
     mark: Mark,
     apart: Option<u64>,
     named: &mut Matches,
 ) -> Result<(), AllocError>
+    requires { IsItemOf gauge.node.now index (subtree_entry level (inner_of entry)).item }
     ensures { OnOk result (named.new.needs.items ≡ named.old.needs.items ++ needs_among
         (near_ones (paired gauge.entry.coming.now.need (subtree_entry level (inner_of entry.entry)).item apart ∷ []) (mark ∷ []))) }
 {
-    let probe = JoinProbe {
-        alloc: gauge.search.alloc,
-        need: &gauge.coming.need,
-        rho: gauge.search.rho,
-        reach: gauge.coming.need.other().radius(),
-    };
     match mark {
-        Mark::Near => named.add_subtree(probe, level, entry, apart),
+        Mark::Near => named.add_subtree(gauge.probe(), level, index, entry, apart),
         Mark::Skip | Mark::Far => Ok(()),
     }
 }

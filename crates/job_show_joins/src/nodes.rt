@@ -1,5 +1,5 @@
 // The lines of an opened node.
-ghost use Rattle.std.specs.Prelude.{◌≡◌, ◌≤◌, ◌++◌, ◌+◌, ◌<◌, ◌^◌, [], length, map, reverse, if◌then◌else◌, not, OnOk, IfOk};
+ghost use Rattle.std.specs.Prelude.{◌≡◌, ◌≤◌, ◌++◌, ◌+◌, ◌<◌, ◌^◌, [], length, map, reverse, if◌then◌else◌, OnOk, IfOk};
 ghost use Rattle.std.specs.Option.{is_none};
 ghost use Rattle.log_model.specs.Counts.{entry_count};
 ghost use Rattle.log_model.specs.JoinWalk.{allows_entry, centre_of, join_needs, object_entry, other, subtree_entry};
@@ -24,9 +24,10 @@ use tree_shape::{InnerEntries, LeafEntries, Node};
 fn push_item(item: &Item, out: &mut Vec<u8>) -> Result<(), AllocError>
     ensures { OnOk result (out.new.items ≡ out.old.items ++ item_name item.now) }
 {
-    match item {
-        Item::Subtree { page, .. } => push_numbered(b"node ", u64::from(*page), out),
-        Item::Object { id, .. } => push_numbered(b"object ", u64::from(*id), out),
+    if item.is_object() {
+        push_numbered(b"object ", u64::from(item.id()), out)
+    } else {
+        push_numbered(b"node ", u64::from(item.page()), out)
     }
 }
 
@@ -51,6 +52,7 @@ fn show_leaf(
     marks: &[Mark],
     walk: &mut PairWalk,
 ) -> Result<bool, AllocError>
+    requires leaf { gauge.node.now ≡ Node.Leaf entries.now }
     requires long { length marks.now ≡ length entries.now }
     requires deep { gauge.coming.now.depth + 1 < 2 ^ 32 }
     ensures lines { OnOk result (walk.new.lines.items ≡ walk.old.lines.items ++ marked_lines
@@ -67,7 +69,7 @@ fn show_leaf(
     for i in 0..entries.len() {
         let entry = entries.at(i);
         let tested = show_object(gauge, i as u64, entry, marks[i], &mut walk.lines)?;
-        name_object(gauge, entry, marks[i], tested.apart, &mut walk.named)?;
+        name_object(gauge, i, entry, marks[i], tested.apart, &mut walk.named)?;
         allowed &= tested.allowed;
     }
     Ok(allowed)
@@ -82,6 +84,7 @@ fn show_inner(
     marks: &[Mark],
     walk: &mut PairWalk,
 ) -> Result<bool, AllocError>
+    requires inner { gauge.node.now ≡ Node.Inner level entries.now }
     requires long { length marks.now ≡ length entries.now }
     requires deep { gauge.coming.now.depth + 1 < 2 ^ 32 }
     ensures lines { OnOk result (walk.new.lines.items ≡ walk.old.lines.items ++ marked_lines
@@ -100,34 +103,37 @@ fn show_inner(
     for i in 0..entries.len() {
         let entry = entries.at(i);
         let tested = show_subtree(gauge, level, i as u64, entry, marks[i], &mut walk.lines)?;
-        name_subtree(gauge, level, entry, marks[i], tested.apart, &mut walk.named)?;
+        name_subtree(
+            gauge,
+            level,
+            i,
+            entry,
+            marks[i],
+            tested.apart,
+            &mut walk.named,
+        )?;
         allowed &= tested.allowed;
     }
     Ok(allowed)
 }
 
 // Appends the lines of a node, and collects the pairs that its marks need. Returns whether all marks are allowed.
-fn show_entries(
-    gauge: PairGauge,
-    node: &Node,
-    marks: &[Mark],
-    walk: &mut PairWalk,
-) -> Result<bool, AllocError>
-    requires long { length marks.now ≡ entry_count node.now }
+fn show_entries(gauge: PairGauge, marks: &[Mark], walk: &mut PairWalk) -> Result<bool, AllocError>
+    requires long { length marks.now ≡ entry_count gauge.node.now }
     requires deep { gauge.coming.now.depth + 1 < 2 ^ 32 }
     ensures lines { OnOk result (walk.new.lines.items ≡ walk.old.lines.items ++
-        pair_lines (search_by gauge.entry.search) gauge.entry.coming.now node.now marks.now) }
+        pair_lines (search_by gauge.entry.search) gauge.entry.coming.now gauge.entry.node.now marks.now) }
     ensures allowed { IfOk result (λ allowed. allowed ≡ is_none
-        (join_wrong_in (search_by gauge.entry.search) gauge.entry.coming.now.need node.now marks.now)) }
+        (join_wrong_in (search_by gauge.entry.search) gauge.entry.coming.now.need gauge.entry.node.now marks.now)) }
     ensures needs { OnOk result (walk.new.named.needs.items ≡
-        join_needs (search_by gauge.entry.search) gauge.entry.coming.now.need node.now marks.now) }
+        join_needs (search_by gauge.entry.search) gauge.entry.coming.now.need gauge.entry.node.now marks.now) }
     ensures stack { walk.new.stack.items ≡ walk.old.stack.items }
     ensures counts { walk.new.counts ≡ walk.old.counts }
     ensures measured { walk.new.measured ≡ walk.old.measured }
 {
     walk.named.needs.clear();
     walk.named.hits.clear();
-    match node {
+    match gauge.node.as_ref() {
         Node::Leaf(entries) => {
             push_pair(gauge.coming, 0, &mut walk.lines)?;
             show_leaf(gauge, entries, marks, walk)
@@ -139,23 +145,13 @@ fn show_entries(
     }
 }
 
-// Returns whether an item has a centre. A root has none.
-fn has_centre(item: &Item) -> bool
-    ensures { is_none (centre_of item.now) ≡ not result }
-{
-    match item {
-        Item::Subtree { centre, .. } => centre.is_some(),
-        Item::Object { .. } => true,
-    }
-}
-
 // Returns the number of the distances of a node's entries from the other item.
 fn measured_beside(item: &Item, marks: &[Mark]) -> u64
     requires { length marks.now ≤ 32 }
     ensures value { result ≡ measured_beside (centre_of item.now) marks.now }
     ensures few { result ≤ 64 }
 {
-    if !has_centre(item) {
+    if item.centre().is_none() {
         return 0;
     }
     let none = Counts {
@@ -200,29 +196,25 @@ fn go_on(walk: &mut PairWalk, depth: u32, goes: bool) -> Result<(), AllocError>
 // Shows a node. The walk goes on to the pairs that its marks need, where each mark is allowed.
 // Clauses: what is asked of the caller (`long`, `short`, `deep`, `small`, `room`); what changes (`lines`, `counts`, `measured`, `few`,
 // `stack`).
-pub fn show_node(
-    gauge: PairGauge,
-    node: &Node,
-    marks: &[Mark],
-    walk: &mut PairWalk,
-) -> Result<(), AllocError>
-    requires long { length marks.now ≡ entry_count node.now }
+pub fn show_node(gauge: PairGauge, marks: &[Mark], walk: &mut PairWalk) -> Result<(), AllocError>
+    requires long { length marks.now ≡ entry_count gauge.node.now }
     requires short { length marks.now ≤ 32 }
     requires deep { gauge.coming.now.depth + 1 < 2 ^ 32 }
     requires small { AreSmall (with_marks marks.now walk.old.counts) }
     requires room { walk.old.measured + 64 < 2 ^ 64 }
     ensures lines { OnOk result (walk.new.lines.items ≡ walk.old.lines.items ++
-        pair_lines (search_by gauge.entry.search) gauge.entry.coming.now node.now marks.now) }
+        pair_lines (search_by gauge.entry.search) gauge.entry.coming.now gauge.entry.node.now marks.now) }
     ensures counts { OnOk result (walk.new.counts ≡ with_marks marks.now walk.old.counts) }
     ensures measured { OnOk result (walk.new.measured ≡ walk.old.measured +
         measured_beside (centre_of (other gauge.entry.coming.now.need)) marks.now) }
     ensures few { OnOk result (walk.new.measured ≤ walk.old.measured + 64) }
     ensures stack { OnOk result (reverse walk.new.stack.items ≡ (if is_none
-        (join_wrong_in (search_by gauge.entry.search) gauge.entry.coming.now.need node.now marks.now)
-        then pairs_coming (search_by gauge.entry.search) gauge.entry.coming.now node.now marks.now ++ reverse walk.old.stack.items
+        (join_wrong_in (search_by gauge.entry.search) gauge.entry.coming.now.need gauge.entry.node.now marks.now)
+        then pairs_coming (search_by gauge.entry.search) gauge.entry.coming.now gauge.entry.node.now marks.now
+        ++ reverse walk.old.stack.items
         else [])) }
 {
-    let allowed = show_entries(gauge, node, marks, walk)?;
+    let allowed = show_entries(gauge, marks, walk)?;
     walk.counts = count_marks(walk.counts, marks);
     walk.measured += measured_beside(gauge.coming.need.other(), marks);
     go_on(walk, gauge.coming.depth + 1, allowed)

@@ -24,9 +24,10 @@ pub struct PairReach {
 pub fn item_radius(item: &Item) -> Option<u64>
     ensures { result ≡ item_radius item.now }
 {
-    match item {
-        Item::Subtree { radius, .. } => Some(*radius),
-        Item::Object { .. } => None,
+    if item.is_object() {
+        None
+    } else {
+        Some(item.radius())
     }
 }
 

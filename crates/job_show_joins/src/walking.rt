@@ -57,7 +57,7 @@ impl PairWalk {
         ensures measured { IfOk result (λ walk. walk.measured ≡ 0) }
         ensures stack { IfOk result (λ walk. walk.stack.items ≡ coming_at 0 (root_pair left.now right.now) ∷ []) }
     {
-        let need = JoinNeed::of_roots(alloc, left, right)?;
+        let need = JoinNeed::of_roots(left, right);
         let mut stack = Vec::new(alloc);
         stack.push(PairComing { need, depth: 0 })?;
         Ok(PairWalk::begin(alloc, stack))
@@ -167,8 +167,9 @@ fn show_record<P: Pages, Q: Pages>(
     let gauge = PairGauge {
         search,
         coming: &coming,
+        node: &node,
     };
-    show_node(gauge, node.as_ref(), told.marks.as_slice(), walk)?;
+    show_node(gauge, told.marks.as_slice(), walk)?;
     Ok(())
 }
 

@@ -11,7 +11,7 @@ pub returns-clause-depths : goal.returns-clause-depths
 returns-clause-depths g c depth all =
     let j : JoinSearch = search_by c.args.search in
     let coming = c.in-Some.coming in
-    let node = c.as_ref.result.now in
+    let node = c.in-Some-2.node in
     let marks = c.as_slice.result.now in
     depths_on _ _ coming (reverse c.pop.new.self.items) (join_needs j coming.need node marks) (is_none (join_wrong_in j coming.need node marks)) depth
     (popped c.args.walk.now.stack.items c.pop.new.self.items coming c.in-Some.ensures.items) c.in_ok-show_node.ensures.stack all
@@ -23,7 +23,7 @@ returns-clause-shown g c t u rs =
     let left = (g.P.Pages.shelf c.args.left.now).read in
     let right = (g.Q.Pages.shelf c.args.right.now).read in
     let marks_are : c.as_slice.result.now ≡ c.args.told.now.marks = search rules in
-    let node_is : node_told left right coming.need c.args.told.now ≡ Some c.as_ref.result.now = search rules in
+    let node_is : node_told left right coming.need c.args.told.now ≡ Some c.in-Some-2.node = search rules in
     let shown = c.in_ok-show_node.ensures in
-    told_on j left right c.args.walk.now c.show_node.new.walk coming (reverse c.pop.new.self.items) c.as_ref.result.now c.args.told.now rs
+    told_on j left right c.args.walk.now c.show_node.new.walk coming (reverse c.pop.new.self.items) c.in-Some-2.node c.args.told.now rs
     (popped c.args.walk.now.stack.items c.pop.new.self.items coming c.in-Some.ensures.items) node_is (rw marks_are at shown.lines) (rw marks_are at shown.counts) (rw marks_are at shown.measured) (rw marks_are at shown.stack)
