@@ -1,5 +1,5 @@
 -- What a search keeps of each opening of a page.
-use Rattle.std.specs.Prelude.{◌≡◌, ℕ, ◌≤◌, Bool, ◌&&◌, nat_eq, List, length, slice_range, Option, Some}
+use Rattle.std.specs.Prelude.{◌≡◌, ℕ, ◌<◌, ◌≤◌, Bool, ◌&&◌, nat_eq, List, [], ◌∷◌, ◌++◌, length, slice_index_or, slice_range, Option, Some}
 use Rattle.std.specs.Option.{option_eq, option_map}
 use Rattle.std.specs.Map.{lookup}
 use Rattle.metric_laws.specs.Space.{Space}
@@ -15,13 +15,27 @@ use Rattle.nearest_search.specs.Seeing.{Seen, IsSeenOf, seen_of, sights}
 abbrev pub is_turn : Turn → Turn → Bool
 is_turn a b = nat_eq a.page b.page && option_eq nat_eq a.above b.above
 
--- the span lies within `size` sights
-abbrev pub LiesWithin : ℕ → Span → Type 0
-LiesWithin size span = (span.from ≤ span.to) × (span.to ≤ size)
+-- the blocks of sights, the last one at the end
+abbrev pub blocks_of : Kept → List (List Sight)
+blocks_of kept = kept.full.items ++ kept.last.items ∷ []
+
+abbrev pub sights_in : List (List Sight) → ℕ → List Sight
+sights_in blocks block = slice_index_or blocks block []
+
+-- no block is lost, and each has the sights that it had, and may have more behind them
+pub record Grows (old new : List (List Sight)) : Type 0 where
+  pub none_lost : length old ≤ length new
+  pub more : (block : ℕ) → block < length old → (added : List Sight) × (sights_in new block ≡ sights_in old block ++ added)
+
+-- the span lies within one of the blocks
+pub record LiesWithin (blocks : List (List Sight)) (span : Span) : Type 0 where
+  pub block : span.block < length blocks
+  pub ordered : span.from ≤ span.to
+  pub within : span.to ≤ length (sights_in blocks span.block)
 
 -- what the sights at a span say
-abbrev pub seen_at : List Sight → Span → Seen
-seen_at xs span = seen_of span.is_leaf (slice_range xs span.from span.to)
+abbrev pub seen_at : List (List Sight) → Span → Seen
+seen_at blocks span = seen_of span.is_leaf (slice_range (sights_in blocks span.block) span.from span.to)
 
 -- what is kept of a page that was opened below a routing point at a distance
 abbrev pub Sheets : Type 0
@@ -32,11 +46,11 @@ abbrev pub kept_span : Kept → ℕ → Option ℕ → Option Span
 kept_span kept page above = lookup (is_turn (record { page = page; above = above })) kept.spans.entries
 
 abbrev pub kept_seen : Kept → Sheets
-kept_seen kept page above = option_map (seen_at kept.sights.items) (kept_span kept page above)
+kept_seen kept page above = option_map (seen_at (blocks_of kept)) (kept_span kept page above)
 
--- the sights of each opening stand within all sights
+-- the sights of each opening stand within a block
 abbrev pub SpansFit : Kept → Type 0
-SpansFit kept = (page : ℕ) (above : Option ℕ) (span : Span) → kept_span kept page above ≡ Some span → LiesWithin (length kept.sights.items) span
+SpansFit kept = (page : ℕ) (above : Option ℕ) (span : Span) → kept_span kept page above ≡ Some span → LiesWithin (blocks_of kept) span
 
 -- something is kept of an opening
 abbrev pub IsKept : Sheets → ℕ → Option ℕ → Type 0

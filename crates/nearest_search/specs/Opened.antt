@@ -1,5 +1,5 @@
 -- What opening a page does.
-use Rattle.std.specs.Prelude.{◌≡◌, ◌⊎◌, ℕ, ◌+◌, ◌≤◌, List, ◌++◌, map, length, drop, min, Option, Some, IsPermutation}
+use Rattle.std.specs.Prelude.{◌≡◌, ◌⊎◌, ℕ, ◌+◌, ◌≤◌, List, ◌++◌, map, drop, min, Option, Some, IsPermutation}
 use Rattle.metric_laws.specs.Space.{Space}
 use Rattle.tree_shape.specs.declared.entry.LeafEntry.{LeafEntry}
 use Rattle.tree_shape.specs.declared.entry.InnerEntry.{InnerEntry}
@@ -11,8 +11,8 @@ use Rattle.nearest_search.specs.declared.kept.Span.{Span}
 use Rattle.nearest_search.specs.declared.pending.Pending.{Pending}
 use Rattle.nearest_search.specs.declared.seen.Sight.{Sight}
 use Rattle.nearest_search.specs.Counts.{within}
-use Rattle.nearest_search.specs.Seeing.{Seen, IsSeenOf, object_sight, subtree_sight, seen_of}
-use Rattle.nearest_search.specs.Keeping.{Sheets}
+use Rattle.nearest_search.specs.Seeing.{Seen, IsSeenOf, object_sight, subtree_sight}
+use Rattle.nearest_search.specs.Keeping.{Grows, LiesWithin, Sheets, seen_at}
 use Rattle.nearest_search.specs.Machine.{dists_of, pendings_of, pending_of}
 
 -- the distances of the objects that the least marks leave in a leaf
@@ -37,13 +37,11 @@ pub record PassesSubtrees (f : Search) (above : Option ℕ) (es : List InnerEntr
   pub seen : new ++ map (subtree_sight f above) (drop next es) ≡ old ++ map (subtree_sight f above) (drop from es)
   pub none : inner_pendings f above (drop next es) ≡ inner_pendings f above (drop from es)
 
--- what was seen of the node's entries was appended to the sights, and stands at the span
-pub record Sees (s : Space) (q : List ℕ) (rho : ℕ) (above : Option ℕ) (node : Node) (old new : List Sight) (span : Span) : Type 0 where
-  pub added : List Sight
-  pub all : new ≡ old ++ added
-  pub from_is : span.from ≡ length old
-  pub to_is : span.to ≡ length new
-  pub seen_is : IsSeenOf s q rho above node (seen_of span.is_leaf added)
+-- what was seen of the node's entries was appended to the blocks, and stands at the span
+pub record Sees (s : Space) (q : List ℕ) (rho : ℕ) (above : Option ℕ) (node : Node) (old new : List (List Sight)) (span : Span) : Type 0 where
+  pub grows : Grows old new
+  pub within : LiesWithin new span
+  pub seen_is : IsSeenOf s q rho above node (seen_at new span)
 
 -- what a search knows in the middle: the subtrees that are not opened yet, the least distances, what was seen of the opened pages,
 -- and the count of the distances that were computed

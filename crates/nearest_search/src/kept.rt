@@ -1,11 +1,13 @@
-ghost use Rattle.std.specs.Prelude.{◌≡◌, ◌⊎◌, ℕ, length, Option, [], Some, IfOk, OnOk};
+ghost use Rattle.std.specs.Prelude.{◌≡◌, ◌⊎◌, ◌<◌, ℕ, length, Option, [], Some, IfOk, OnOk};
 ghost use Rattle.std.specs.Option.{option_map};
 ghost use Rattle.nearest_search.specs.Seeing.{seen_on};
-ghost use Rattle.nearest_search.specs.Keeping.{LiesWithin, SpansFit, kept_seen, seen_at};
+ghost use Rattle.nearest_search.specs.Keeping.{Grows, LiesWithin, SpansFit, blocks_of, kept_seen, seen_at, sights_in};
 
 use crate::seen::{Sheet, Sight};
+use metric_laws::Listed;
 use std::alloc::{AllocError, Global};
 use std::collections::HashMap;
+use std::mem;
 
 /// An opening of a page.
 #[derive(Clone, Copy, PartialEq, Eq, Hash)]
@@ -16,9 +18,11 @@ pub struct Turn {
     pub above: Option<u64>,
 }
 
-/// Where the sights of an opening stand among all sights, from one place up to another.
+/// Where the sights of an opening stand: in one block, from one place up to another.
 #[derive(Clone, Copy)]
 pub struct Span {
+    /// The number of the block.
+    pub block: usize,
     pub from: usize,
     pub to: usize,
     /// Whether they are of a leaf's objects. If not, they are of an inner node's subtrees.
@@ -28,14 +32,17 @@ pub struct Span {
 /// The room for openings that is taken at once: most searches of small files and many of large ones open no more pages.
 const SOME_OPENINGS: usize = 112;
 
-/// The room for sights that is taken at once. A list of this size grows seldom.
-const SOME_SIGHTS: usize = 1024;
+/// The sights of a block, of 32 KiB.
+const BLOCK: usize = 1024;
 
-/// What was seen at each opening of a page. All sights stand in one list, so that an opening takes no memory of its own.
+/// What was seen at each opening of a page. Sights stand in blocks, so that few openings take memory of their own, and no sight is
+/// copied where there are many.
 #[derive(Drop)]
 pub struct Kept {
-    /// The sights of all openings, in their order.
-    pub sights: Vec<Sight>,
+    // The blocks before the last one.
+    full: Vec<Listed<Sight>>,
+    /// The last block. Sights are appended to it.
+    pub last: Vec<Sight>,
     spans: HashMap<Turn, Span>,
 }
 
@@ -45,9 +52,36 @@ impl Kept {
         ensures { IfOk result (λ kept. kept.spans.entries ≡ []) }
     {
         Ok(Kept {
-            sights: Vec::with_capacity(alloc, SOME_SIGHTS)?,
+            full: Vec::new(alloc),
+            last: Vec::with_capacity(alloc, BLOCK)?,
             spans: HashMap::with_capacity(alloc, SOME_OPENINGS)?,
         })
+    }
+
+    /// Makes room for `count` more sights in the last block, or in a new one. Returns the number of the last block.
+    pub fn make_room(&mut self, alloc: Global, count: usize) -> Result<usize, AllocError>
+        ensures last { IfOk result (λ block. block ≡ length self.new.full.items) }
+        ensures spans { self.new.spans ≡ self.old.spans }
+        ensures grows { OnOk result (Grows (blocks_of self.old) (blocks_of self.new)) }
+    {
+        if BLOCK.saturating_sub(self.last.len()) < count {
+            let next = Vec::with_capacity(alloc, BLOCK)?;
+            let full = mem::replace(&mut self.last, next);
+            self.full.push(Listed::new(full))?;
+        }
+        Ok(self.full.len())
+    }
+
+    // Returns the sights of a block.
+    fn block(&self, number: usize) -> &[Sight]
+        requires { number < length (blocks_of self.now) }
+        ensures { result.now ≡ sights_in (blocks_of self.now) number }
+    {
+        if number < self.full.len() {
+            self.full[number].as_slice()
+        } else {
+            self.last.as_slice()
+        }
     }
 
     /// Returns what was seen at the opening `turn`, if it is kept.
@@ -58,7 +92,7 @@ impl Kept {
         let Some(span) = self.spans.get(&turn) else {
             return None;
         };
-        let sights = &self.sights[span.from..span.to];
+        let sights = &self.block(span.block)[span.from..span.to];
         if span.is_leaf {
             return Some(Sheet::Objects(sights));
         }
@@ -68,9 +102,9 @@ impl Kept {
     /// Keeps where the sights of the opening `turn` stand.
     pub fn put(&mut self, turn: Turn, span: Span) -> Result<(), AllocError>
         requires fits { SpansFit self.old }
-        requires within { LiesWithin (length self.old.sights.items) span }
+        requires within { LiesWithin (blocks_of self.old) span }
         ensures fits { OnOk result (SpansFit self.new) }
-        ensures here { OnOk result (kept_seen self.new turn.page turn.above ≡ Some (seen_at self.old.sights.items span)) }
+        ensures here { OnOk result (kept_seen self.new turn.page turn.above ≡ Some (seen_at (blocks_of self.old) span)) }
         ensures others { OnOk result ((page : ℕ) (above : Option ℕ) →
             ((page ≡ turn.page) × (above ≡ turn.above)) ⊎ (kept_seen self.new page above ≡ kept_seen self.old page above)) }
     {

@@ -10,7 +10,7 @@ ghost use Rattle.nearest_search.specs.Machine.{dists_of, pendings_of};
 ghost use Rattle.nearest_search.specs.Opened.{leaf_dists, inner_pendings, PassesObjects, PassesSubtrees, Takes, Sees, IsOpened};
 ghost use Rattle.metric_laws.specs.Space.{Space};
 ghost use Rattle.nearest_search.specs.Seeing.{object_sight, subtree_sight};
-ghost use Rattle.nearest_search.specs.Keeping.{SpansFit, kept_seen};
+ghost use Rattle.nearest_search.specs.Keeping.{SpansFit, blocks_of, kept_seen};
 
 use crate::frontier::Frontier;
 use crate::kept::{Span, Turn};
@@ -18,7 +18,7 @@ use crate::kth::Best;
 use crate::machine::Machine;
 use crate::pending::Pending;
 use crate::seen::{Sight, look, skip_of};
-use log_model::Probe;
+use log_model::{Probe, entry_count};
 use metric_laws::Ruler;
 use page_store::{PageFault, Pages};
 use std::alloc::{AllocError, Global};
@@ -151,6 +151,7 @@ pub fn queue_inner<R: Ruler>(
 // Takes in the node of a page that was opened below a routing point at the distance `above`. Returns where the sights of its entries
 // stand.
 fn see_node<R: Ruler>(
+    alloc: Global,
     ruler: &mut R,
     probe: Probe,
     above: Option<u64>,
@@ -167,39 +168,41 @@ fn see_node<R: Ruler>(
     ensures noted { OnOk result (Takes machine.old.best.k (heap_items machine.old.best.heap) (heap_items machine.new.best.heap)
         (dists_of (search_at (R.M.space (R.metric ruler.old)) probe.entry.q.now probe.entry.rho) above node.now)) }
     ensures seen { IfOk result (Sees (R.M.space (R.metric ruler.old)) probe.entry.q.now probe.entry.rho above node.now
-        machine.old.kept.sights.items machine.new.kept.sights.items) }
+        (blocks_of machine.old.kept) (blocks_of machine.new.kept)) }
 {
-    let from = machine.kept.sights.len();
+    let kept = &mut machine.kept;
+    let block = kept.make_room(alloc, entry_count(node))?;
+    let from = kept.last.len();
     match node {
         Node::Leaf(entries) => {
-            machine.kept.sights.reserve(entries.len())?;
             note_leaf(
                 ruler,
                 probe,
                 above,
                 entries,
                 &mut machine.best,
-                &mut machine.kept.sights,
+                &mut kept.last,
             )?;
             Ok(Span {
+                block,
                 from,
-                to: machine.kept.sights.len(),
+                to: kept.last.len(),
                 is_leaf: true,
             })
         }
         Node::Inner { entries, .. } => {
-            machine.kept.sights.reserve(entries.len())?;
             queue_inner(
                 ruler,
                 probe,
                 above,
                 entries,
                 &mut machine.frontier,
-                &mut machine.kept.sights,
+                &mut kept.last,
             )?;
             Ok(Span {
+                block,
                 from,
-                to: machine.kept.sights.len(),
+                to: kept.last.len(),
                 is_leaf: false,
             })
         }
@@ -244,7 +247,7 @@ pub fn open_page<P: Pages, R: Ruler>(
     ensures cause { IfErr result (HasPageCause (P.shelf pages.old) (P.shelf pages.new) next.page) }
 {
     let node = pages.node(alloc, next.page, None)?;
-    let span = see_node(ruler, probe, next.above, node.as_ref(), machine)?;
+    let span = see_node(alloc, ruler, probe, next.above, node.as_ref(), machine)?;
     let turn = Turn {
         page: next.page,
         above: next.above,
