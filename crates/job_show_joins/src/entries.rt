@@ -228,7 +228,7 @@ pub fn name_object(
     }
 }
 
-// Adds the pair of subtree `index` of an inner node of level `level`, where it is marked Near, at the distance `apart`.
+// Adds the pair of a subtree marked Near. Arguments: `level` is its inner node's, `index` and `entry` its own, `apart` its distance.
 pub fn name_subtree(
     gauge: PairGauge,
     level: u8,

@@ -46,6 +46,8 @@ fn push_pair(coming: &PairComing, level: u8, out: &mut Vec<u8>) -> Result<(), Al
 }
 
 // Appends the lines of a leaf's entries, and the pairs that their marks need. Returns whether all marks are allowed.
+// Clauses: what is asked of the caller (`leaf`, `long`, `deep`); what is appended (`lines`, `needs`); the answer (`allowed`); what stays
+// (`stack`, `counts`, `measured`).
 fn show_leaf(
     gauge: PairGauge,
     entries: &LeafEntries,
@@ -77,6 +79,8 @@ fn show_leaf(
 
 // Appends the lines of the entries of an inner node of level `level`, and the pairs that their marks need. Returns whether all marks
 // are allowed.
+// Clauses: what is asked of the caller (`inner`, `long`, `deep`); what is appended (`lines`, `needs`); the answer (`allowed`); what stays
+// (`stack`, `counts`, `measured`).
 fn show_inner(
     gauge: PairGauge,
     level: u8,

@@ -211,7 +211,7 @@ fn name_object(
     }
 }
 
-// Adds the pair of subtree `index` of an inner node of level `level`, where it is marked Near.
+// Adds the pair of a subtree that is marked Near. Arguments: `level` is the inner node's, `index` and `entry` are the subtree's.
 fn name_subtree(
     probe: JoinProbe,
     named: &mut Matches,
