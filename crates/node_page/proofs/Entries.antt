@@ -1,6 +1,6 @@
 -- The numbers of the entries on a page.
-use Rattle.std.proofs.Common.{◌≡◌, ℕ, suc, ◌+◌, ◌*◌, ◌-◌, ◌^◌, ◌<◌, ◌≤◌, true, List, length, take, drop, get_or, slice_index, sym, ◌∙◌, ap, arith, length-drop, mul-le-mul_left}
-use Rattle.std.proofs.lemmas.List.{get_or-drop, drop-take, drop-drop, take_all}
+use Rattle.std.proofs.Common.{◌≡◌, ℕ, suc, ◌++◌, ◌+◌, ◌*◌, ◌-◌, ◌^◌, ◌<◌, ◌≤◌, true, List, length, take, drop, get_or, slice_index, sym, ◌∙◌, ap, arith, length-drop, mul-le-mul_left}
+use Rattle.std.proofs.lemmas.List.{get_or-append-add, get_or_append_left, get_or-drop, drop-take, drop-drop, take_all}
 use Rattle.byteorder.specs.Endian.{IsRead, big_number}
 use Rattle.tree_shape.specs.Flat.{wide, start_of, leaf_from, inner_from}
 use Rattle.tree_shape.specs.declared.entry.LeafEntry.{LeafEntry}
@@ -11,20 +11,39 @@ use Rattle.node_page.proofs.Listing.{firsts_by, firsts_same, place-firsts}
 use Rattle.node_page.proofs.Numbers.{number_got}
 use Rattle.node_page.proofs.Putting.{leaf_by, inner_by}
 
+-- the numbers that are read of a part of a page
+part_read : (at count : ℕ) (page numbers : List ℕ) → at + 4 * count ≤ length page → length numbers ≡ count →
+    IsRead big_number 4 (take (4 * count) (drop at page)) numbers → (k : ℕ) → k < count → slice_index numbers k ≡ number_at (at + 4 * k) 4 page
+part_read at count page numbers within long read k below =
+    let rest : 4 * count ≡ 4 * k + (4 * count - 4 * k) = omega arith in
+    number_got 4 (at + 4 * k) (4 * count - 4 * k) (slice_index numbers k) page
+    (read k (omega arith) ∙ ap (λ (n : ℕ). big_number 4 (drop (4 * k) (take n (drop at page)))) rest
+    ∙ ap (big_number 4) (drop-take (4 * k) (4 * count - 4 * k) (drop at page))
+    ∙ ap (λ (xs : List ℕ). big_number 4 (take (4 * count - 4 * k) xs)) (drop-drop (4 * k) at page))
+    (omega arith) (omega arith)
+
+-- numbers that are each the page's at its place
+pub numbers_by : (page numbers : List ℕ) → ((k : ℕ) → k < length numbers → slice_index numbers k ≡ number_at (16 + 4 * k) 4 page) → AreNumbers page numbers
+numbers_by page numbers places =
+    sym (take_all (length numbers) numbers (omega arith)) ∙ firsts_by (λ j. number_at (16 + 4 * j) 4 page) (length numbers) numbers (omega arith) places
+
 -- what is read of a page behind its front are its numbers
 pub numbers_read : (count : ℕ) (page numbers : List ℕ) → 16 + 4 * count ≤ 4096 → 4096 ≤ length page → length numbers ≡ count →
     IsRead big_number 4 (take (4 * count) (drop 16 page)) numbers → AreNumbers page numbers
 numbers_read count page numbers within whole long read =
-    sym (take_all (length numbers) numbers (omega arith)) ∙ firsts_by (λ j. number_at (16 + 4 * j) 4 page) (length numbers) numbers (omega arith) (λ k below. place k below)
-  where
-    place : (k : ℕ) → k < length numbers → get_or numbers k 0 ≡ number_at (16 + 4 * k) 4 page
-    place k below =
-        let rest : 4 * count ≡ 4 * k + (4 * count - 4 * k) = omega arith in
-        number_got 4 (16 + 4 * k) (4 * count - 4 * k) (get_or numbers k 0) page
-        (read k below ∙ ap (λ (n : ℕ). big_number 4 (drop (4 * k) (take n (drop 16 page)))) rest
-        ∙ ap (big_number 4) (drop-take (4 * k) (4 * count - 4 * k) (drop 16 page))
-        ∙ ap (λ (xs : List ℕ). big_number 4 (take (4 * count - 4 * k) xs)) (drop-drop (4 * k) 16 page))
-        (omega arith) (omega arith)
+    numbers_by page numbers (λ k below. part_read 16 count page numbers (omega arith) long read k (omega arith))
+
+-- numbers that are read into their place between others
+pub some_read : (from count k : ℕ) (page front some rest : List ℕ) → length front ≡ from → length some ≡ count → 16 + 4 * (from + count) ≤ length page →
+    IsRead big_number 4 (take (4 * count) (drop (16 + 4 * from) page)) some → from ≤ k → k < from + count →
+    slice_index (front ++ (some ++ rest)) k ≡ number_at (16 + 4 * k) 4 page
+some_read from count k page front some rest starts long within read low high =
+    let there : k ≡ length front + (k - from) = omega arith in
+    ap (λ (i : ℕ). slice_index (front ++ (some ++ rest)) i) there
+    ∙ get_or-append-add front (some ++ rest) (k - from) 0
+    ∙ get_or_append_left some rest 0 (k - from) (omega arith)
+    ∙ part_read (16 + 4 * from) count page some (omega arith) long read (k - from) (omega arith)
+    ∙ ap (λ (at : ℕ). number_at at 4 page) (let e : 16 + 4 * from + 4 * (k - from) ≡ 16 + 4 * k = omega arith in e)
 
 -- a number of eight bytes is two of four
 number_split : (at : ℕ) (page : List ℕ) → number_at at 8 page ≡ number_at at 4 page * 2 ^ 32 + number_at (at + 4) 4 page

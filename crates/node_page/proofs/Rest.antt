@@ -2,7 +2,7 @@
 use Rattle.std.proofs.Common.{◌≡◌, inl, inr, ℕ, zero, suc, ◌+◌, ◌-◌, ◌<◌, ◌≤◌, ◌==◌, Bool, true, false, List, take, drop, slice_index, refl, sym, ◌∙◌, arith, eq-eqb}
 use Rattle.std.proofs.lemmas.List.{get_or-drop, get_or-take}
 use Rattle.std.proofs.lemmas.Bool.Decides.{nat_tests}
-use Rattle.std.proofs.lemmas.Bool.{cases_lt, eqb-true}
+use Rattle.std.proofs.lemmas.Bool.{cases_lt, eqb-true, false_from_ne_true, true≢false}
 use Rattle.node_page.specs.Bytes.{AreZero, are_zero}
 
 -- the test says that the bytes are 0
@@ -56,3 +56,28 @@ test_in_part at n page any i whole least none = same_tests (any == 0) (are_zero 
 
     nothing : are_zero at n page ≡ true → (any == 0) ≡ true
     nothing is = eq-eqb any 0 (none (λ k below. place k (omega arith) ∙ zero_by_test at n page is (at + k) (omega arith) (omega arith)))
+
+-- a part of bytes that are 0
+part_zero : (at n from m : ℕ) (page : List ℕ) → from ≤ at → at + n ≤ from + m → are_zero from m page ≡ true → are_zero at n page ≡ true
+part_zero at n from m page low high is = test_by_zero at n page (λ k above below. zero_by_test from m page is k (omega arith) (omega arith))
+
+-- bytes with a part that is not 0
+pub part_not_zero : (at n from m : ℕ) (page : List ℕ) → from ≤ at → at + n ≤ from + m → are_zero at n page ≡ false → are_zero from m page ≡ false
+part_not_zero at n from m page low high fails = false_from_ne_true (are_zero from m page) (λ is. true≢false (sym (part_zero at n from m page low high is) ∙ fails))
+
+-- bytes that are 0 up to a place, and the next ones too
+pub more_zero : (from at n : ℕ) (page : List ℕ) → AreZero from at page → are_zero at n page ≡ true → AreZero from (at + n) page
+more_zero from at n page zeros is k above below = elim (cases_lt k at) [
+  | inl before ↦ zeros k above before
+  | inr behind ↦ zero_by_test at n page is k behind below
+]
+
+-- bytes that are 0 up to a place, and their last part
+pub whole_by_last : (at last n from m : ℕ) (page : List ℕ) → last ≤ at → from ≤ last → last + n ≡ from + m → AreZero from at page → are_zero last n page ≡ are_zero from m page
+whole_by_last at last n from m page shared low ends zeros = same_tests (are_zero last n page) (are_zero from m page) whole (part_zero last n from m page low (omega arith))
+  where
+    whole : are_zero last n page ≡ true → are_zero from m page ≡ true
+    whole is = test_by_zero from m page (λ k above below. elim (cases_lt k at) [
+      | inl before ↦ zeros k above before
+      | inr behind ↦ zero_by_test last n page is k (omega arith) (omega arith)
+    ])

@@ -13,8 +13,12 @@ pub fn clear(page: &mut [u8])
     }
 }
 
-// Whether each byte from `from` up to `to` is 0.
-pub fn are_zero(page: &[u8], from: usize, to: usize) -> bool
+// Bytes that are tested at a time. They are few enough for LLVM to make no loop of them.
+const TESTED_AT_ONCE: usize = 128;
+
+// Whether each byte of a part of the page is 0.
+#[inline(always)]
+fn is_part_zero(page: &[u8], from: usize, to: usize) -> bool
     requires ordered { from ≤ to }
     requires within { to ≤ length page.now }
     ensures { result ≡ are_zero from (to - from) page.now }
@@ -24,6 +28,27 @@ pub fn are_zero(page: &[u8], from: usize, to: usize) -> bool
         any |= *byte;
     }
     any == 0
+}
+
+// Whether each byte from `from` up to `to` is 0.
+pub fn are_zero(page: &[u8], from: usize, to: usize) -> bool
+    requires ordered { from ≤ to }
+    requires within { to ≤ length page.now }
+    ensures { result ≡ are_zero from (to - from) page.now }
+{
+    if to - from < TESTED_AT_ONCE {
+        return is_part_zero(page, from, to);
+    }
+    let last = to - TESTED_AT_ONCE;
+    let mut at = from;
+    while at < last {
+        if !is_part_zero(page, at, at + TESTED_AT_ONCE) {
+            return false;
+        }
+        at += TESTED_AT_ONCE;
+    }
+    // The last part may share bytes with the one before it.
+    is_part_zero(page, last, to)
 }
 
 // The number in two bytes.

@@ -1,9 +1,10 @@
-ghost use Rattle.std.specs.Prelude.{◌≡◌, ◌≢◌, ◌⊎◌, ◌+◌, ◌*◌, ◌/◌, ◌≤◌, ◌<◌, ◌==◌, length, take, true, IfOk, IfErr, Ok, Err, Some, None, slice_index};
+ghost use Rattle.std.specs.Prelude.{ℕ, ◌≡◌, ◌≢◌, ◌⊎◌, ◌+◌, ◌*◌, ◌/◌, ◌≤◌, ◌<◌, ◌==◌, length, take, true, IfOk, IfErr, Ok, Err, Some, None, slice_index};
 ghost use Rattle.tree_shape.specs.Fill.{most_for};
 ghost use Rattle.node_page.specs.declared.node.Unread.TheVariants.{Memory};
 ghost use Rattle.tree_shape.specs.Flat.{firsts};
 ghost use Rattle.tree_shape.specs.Entries.{flat_leaves, flat_inners};
 ghost use Rattle.node_page.specs.declared.node.Version.TheVariants.{First};
+ghost use Rattle.node_page.specs.Bytes.{number_at};
 ghost use Rattle.node_page.specs.Nodes.{AreNumbers, SpellsIn, IsUnread, IsValidNode, parent_place, leaf_in, leaf_at, inner_at, place_of, place_in, count_of, near_at, are_near, is_count, is_rest_zero, fault_in, node_in};
 
 use crate::bytes::{are_zero, get_u16, get_u32, get_u64};
@@ -70,6 +71,9 @@ const OLD_BEFORE: usize = 3;
 
 /// Numbers that make a list longer: 1,020 bytes at a time cost less than all at once.
 const ZEROS: [u32; 255] = [0; 255];
+
+/// Numbers that are read at a time. They are few enough for LLVM to make no loop of them.
+const READ_AT_ONCE: usize = 32;
 
 // Returns the number of bytes of an entry before its parent distance. The coordinates follow that.
 fn parent_place(version: Version, leaf: bool) -> usize
@@ -194,14 +198,43 @@ fn of_length(alloc: Global, spare: Option<Vec<u32>>, count: usize) -> Result<Vec
     Ok(numbers)
 }
 
+// Reads `READ_AT_ONCE` numbers of four bytes of the entries, the first of them into the place `from`.
+#[inline(always)]
+fn read_some(page: &[u8; 4096], numbers: &mut [u32], from: usize)
+    requires within { from + READ_AT_ONCE ≤ length numbers.old }
+    requires few { 16 + 4 * length numbers.old ≤ 4096 }
+    ensures read { (k : ℕ) → from ≤ k → k < from + READ_AT_ONCE → slice_index numbers.new k ≡ number_at (16 + 4 * k) 4 page.now }
+    ensures before { (k : ℕ) → k < from → slice_index numbers.new k ≡ slice_index numbers.old k }
+    ensures len { length numbers.new ≡ length numbers.old }
+{
+    let start = ENTRIES + 4 * from;
+    let mut some = [0; READ_AT_ONCE];
+    BigEndian::read_u32_into(&page[start..start + 4 * READ_AT_ONCE], &mut some);
+    let (_, rest) = numbers.split_at_mut(from);
+    if let Some(place) = rest.first_chunk_mut() {
+        *place = some;
+    }
+}
+
 // Reads the first numbers of four bytes of the entries.
 fn read_numbers(page: &[u8; 4096], numbers: &mut [u32])
     requires { 16 + 4 * length numbers.old ≤ 4096 }
     ensures numbers { AreNumbers page.now numbers.new }
     ensures len { length numbers.new ≡ length numbers.old }
 {
-    // One loop over all of them, which LLVM makes wide.
-    BigEndian::read_u32_into(&page[ENTRIES..ENTRIES + 4 * numbers.len()], numbers);
+    let count = numbers.len();
+    if count < READ_AT_ONCE {
+        BigEndian::read_u32_into(&page[ENTRIES..ENTRIES + 4 * count], numbers);
+        return;
+    }
+    let last = count - READ_AT_ONCE;
+    let mut from = 0;
+    while from < last {
+        read_some(page, numbers, from);
+        from += READ_AT_ONCE;
+    }
+    // The last ones may share places with the ones before them.
+    read_some(page, numbers, last);
 }
 
 // Returns the first `count` numbers of four bytes of the entries, in the memory of `spare`, if there is some.

@@ -1,27 +1,25 @@
-use Rattle.std.proofs.Common.{◌≡◌, ◌-◌, ◌≤◌, length, take, drop, slice_index, arith}
-use Rattle.std.proofs.lemmas.Nat.{le_or_l, le_or_r}
-use Rattle.std.specs.Int.Bits.{bit_or, or_zero_l}
-use Rattle.std.proofs.lemmas.List.{length-take-le, length-drop}
-use borrow.Author.Count.{below_more}
-use Rattle.node_page.proofs.Rest.{test_in_part}
+use Rattle.std.proofs.Common.{◌≡◌, ℕ, ◌-◌, true, false, sym, ◌∙◌, ap, arith}
+use Rattle.node_page.specs.Bytes.{are_zero}
+use Rattle.node_page.proofs.Rest.{part_not_zero, more_zero, whole_by_last}
 use Rattle.node_page.proofs.bytes.are_zero.Goals as goal
 
-pub loop-byte-preserved : goal.loop-byte-preserved
-loop-byte-preserved c =
-    let any = c.loop-byte.any in
-    let here = slice_index (take (c.args.to - c.args.from) (drop c.args.from c.args.page.now)) c.loop-byte.byte-index in
-    let left : any ≤ bit_or any here = le_or_l any here in
-    let right : here ≤ bit_or any here = le_or_r any here in
+pub returns-then-not-is_part_zero : goal.returns-then-not-is_part_zero
+returns-then-not-is_part_zero c =
+    let part : are_zero c.loop-at.at 128 c.args.page.now ≡ false =
+    ap (λ (n : ℕ). are_zero c.loop-at.at n c.args.page.now) (omega arith) ∙ sym c.is_part_zero-in-loop-at.ensures ∙ c.if-not-is_part_zero.true in
+    sym (part_not_zero c.loop-at.at 128 c.args.from (c.args.to - c.args.from) c.args.page.now c.loop-at.invariant.low (omega arith) part)
+
+pub loop-at-preserved : goal.loop-at-preserved
+loop-at-preserved c =
+    let part : are_zero c.loop-at.at 128 c.args.page.now ≡ true =
+    ap (λ (n : ℕ). are_zero c.loop-at.at n c.args.page.now) (omega arith) ∙ sym c.is_part_zero-in-loop-at.ensures ∙ c.if-not-is_part_zero.false in
     record {
-      least = below_more _ _ (λ k below. omega (arith, left, c.loop-byte.invariant.least k below)) right;
-      none = λ zeros.
-          let before : any ≡ 0 = c.loop-byte.invariant.none (λ k below. zeros k (omega arith)) in
-          let last : here ≡ 0 = zeros c.loop-byte.byte-index (omega arith) in
-          rw (before, last) (or_zero_l 0);
+      low = omega arith;
+      zeros = more_zero c.args.from c.loop-at.at 128 c.args.page.now c.loop-at.invariant.zeros part;
     }
 
 pub returns : goal.returns
 returns c =
-    let n = c.args.to - c.args.from in
-    let long : length (take n (drop c.args.from c.args.page.now)) ≡ n = length-take-le n (drop c.args.from c.args.page.now) (omega (arith, length-drop c.args.from c.args.page.now)) in
-    test_in_part c.args.from n c.args.page.now c.loop-byte.any c.loop-byte.byte-index (omega (arith, long)) c.loop-byte.invariant.least c.loop-byte.invariant.none
+    c.is_part_zero-2.ensures
+    ∙ ap (λ (n : ℕ). are_zero (c.args.to - 128) n c.args.page.now) (omega arith)
+    ∙ whole_by_last c.loop-at.at (c.args.to - 128) 128 c.args.from (c.args.to - c.args.from) c.args.page.now (omega arith) (omega arith) (omega arith) c.loop-at.invariant.zeros

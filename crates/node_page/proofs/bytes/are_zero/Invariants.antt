@@ -1,9 +1,13 @@
-use Rattle.std.proofs.Common.{◌≡◌, ℕ, ◌<◌, ◌≤◌, slice_index}
+use Rattle.std.proofs.Common.{◌≤◌, ◌-◌}
+use Rattle.node_page.specs.Bytes.{AreZero}
 use Rattle.node_page.proofs.bytes.are_zero.Given as goal
 
--- the bytes so far are 0 exactly where all of them together are
-abbrev pub invariant-loop-byte : goal.invariant-loop-byte
-invariant-loop-byte l = record {
-  least : (k : ℕ) → k < l.byte-index → slice_index l.byte-items k ≤ l.any;
-  none : ((k : ℕ) → k < l.byte-index → slice_index l.byte-items k ≡ 0) → l.any ≡ 0;
+-- the bytes up to this one are 0
+abbrev pub invariant-loop-at : goal.invariant-loop-at
+invariant-loop-at l = record {
+  low : l.from ≤ l.at;
+  zeros : AreZero l.from l.at l.page;
 }
+
+abbrev pub decreases-loop-at : goal.decreases-loop-at
+decreases-loop-at l = l.last - l.at
