@@ -35,6 +35,7 @@ fn has_dimension(kind: u8, dim: u8) -> bool
 
 impl MixSpace {
     ghost use Rattle.metric_mix.specs.MixKinds.{mix_kind, mix_dim};
+    ghost use Rattle.metric_mix.specs.MixSpaces.{mix_space};
 
     /// Returns the space of a kind and a dimension. The kind is 1 to 8, in the order above, and the dimension 1 to 64, even for 6
     /// and 7.
@@ -114,6 +115,22 @@ impl MixSpace {
             MixSpace::L1Cap(_) => "l1cap",
         }
     }
+
+    // Returns the distance by any of the metrics.
+    // It stands apart, so that a plain metric pays nothing for the composed ones.
+    #[inline(never)]
+    fn any_dist(&self, a: &[u32], b: &[u32]) -> u64
+        ensures { result ≡ (mix_space (mix_kind self.now) (mix_dim self.now)).dist a.now b.now }
+    {
+        match self {
+            MixSpace::Plain(space) => space.dist(a, b),
+            MixSpace::Kendall(metric) => metric.dist(a, b),
+            MixSpace::Hausdorff(metric) => metric.dist(a, b),
+            MixSpace::MixSum(halves) => halves.joined(Joining::Sum).dist(a, b),
+            MixSpace::MixMax(halves) => halves.joined(Joining::Most).dist(a, b),
+            MixSpace::L1Cap(metric) => Capped::new(*metric, MOST).dist(a, b),
+        }
+    }
 }
 
 impl Metric for MixSpace {
@@ -140,15 +157,10 @@ impl Metric for MixSpace {
         }
     }
 
-    // The composed metrics are calls of their own, so that a plain metric pays nothing for them.
     fn dist(&self, a: &[u32], b: &[u32]) -> u64 {
-        match self {
-            MixSpace::Plain(space) => space.dist(a, b),
-            MixSpace::Kendall(metric) => metric.dist(a, b),
-            MixSpace::Hausdorff(metric) => metric.dist(a, b),
-            MixSpace::MixSum(halves) => halves.joined(Joining::Sum).dist(a, b),
-            MixSpace::MixMax(halves) => halves.joined(Joining::Most).dist(a, b),
-            MixSpace::L1Cap(metric) => Capped::new(*metric, MOST).dist(a, b),
+        if let MixSpace::Plain(space) = self {
+            return space.dist(a, b);
         }
+        self.any_dist(a, b)
     }
 }

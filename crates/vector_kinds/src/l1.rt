@@ -37,6 +37,8 @@ impl Metric for L1 {
         differences::has_places(p, self.dim)
     }
 
+    // Inside a choice of metrics a call would pass its arguments on.
+    #[inline(always)]
     fn dist(&self, a: &[u32], b: &[u32]) -> u64 {
         if a.len() <= differences::LONGEST {
             differences::sum(a, b).min(BOUND)
