@@ -12,7 +12,7 @@ pub mod JoinScan
 pub mod JoinLeast
 pub mod Sorting
 pub mod Examples
-pub mod OneEntry
+pub mod Marked
 pub mod Reached
 pub mod Valid
 pub mod Published

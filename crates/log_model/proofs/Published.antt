@@ -24,8 +24,6 @@ pub use Rattle.log_model.proofs.JoinNames.{with_side, opened_side}
 pub use Rattle.log_model.proofs.JoinScan.{join_complete}
 -- Two sound trees have exactly one least log of a join.
 pub use Rattle.log_model.proofs.JoinLeast.{join_least_sound}
--- One entry of a node that is marked.
-pub use Rattle.log_model.proofs.OneEntry.{leaf_far, leaf_near}
 -- Walks that stopped before their end.
 pub use Rattle.log_model.proofs.Reached.{reaches_more, walks_whole, reached_inside, count_up_more, count_up_both, measured-append}
 -- The logs of walks have a spelling.

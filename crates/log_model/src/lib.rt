@@ -16,7 +16,7 @@ mod traversal;
 pub use answering::{put_hits_in_order, put_pairs_in_order, radius_of, select};
 pub use items::Item;
 pub use logs::{Found, JoinLog, Joined, Log};
-pub use marking::{Probe, is_ruled_out, mark_inner, mark_leaf};
+pub use marking::{Probe, is_ruled_out};
 pub use marks::{JoinRecord, Mark, Need, Record};
 pub use matching::{JoinProbe, Matches};
 pub use pairing::{is_far, is_skipped};

@@ -82,22 +82,17 @@ impl Traversal {
         ensures taken { OnOk result (TakesNode (search_at (R.M.space (R.metric ruler.old)) probe.entry.q.now probe.entry.rho) need
             node.now self.old self.new) }
     {
-        let mut marks = Vec::with_capacity(alloc, entry_count(node))?;
-        match node {
-            Node::Leaf(entries) => mark_leaf(
-                ruler,
-                probe,
-                need.above,
-                entries,
-                &mut marks,
-                &mut self.hits,
-            )?,
+        let marks = match node {
+            Node::Leaf(entries) => {
+                mark_leaf(alloc, ruler, probe, need.above, entries, &mut self.hits)?
+            }
             Node::Inner { entries, .. } => {
                 let mut needs = Vec::new(alloc);
-                mark_inner(ruler, probe, need.above, entries, &mut marks, &mut needs)?;
+                let marks = mark_inner(alloc, ruler, probe, need.above, entries, &mut needs)?;
                 put_on_top(&mut self.stack, &mut needs)?;
+                marks
             }
-        }
+        };
         self.records.push(Record {
             page: need.page,
             marks: Listed::new(marks),

@@ -1,17 +1,18 @@
-use Rattle.std.proofs.Common.{◌≡◌, ◌++◌, drop}
-use Rattle.metric_laws.specs.Counts.{count_up}
-use Rattle.log_model.specs.Counts.{measured_by}
-use Rattle.log_model.specs.Walk.{inner_marks, inner_needs, search_at}
+use Rattle.std.proofs.Common.{◌≡◌, ◌-◌, ◌<◌, false, length, get_or}
+use Rattle.tree_shape.specs.declared.entry.InnerEntry.{InnerEntry}
+use Rattle.log_model.specs.Walk.{search_at, parent_skips, least_for_subtree, need_of}
+use Rattle.log_model.proofs.Marked.{IsMarkedTo}
 use Rattle.log_model.proofs.marking.mark_inner.Given as goal
 
--- what was marked, named and counted so far, and what the rest adds
-abbrev pub invariant-loop-index : goal.invariant-loop-index
-invariant-loop-index g l = record {
+-- the subtrees before this one were marked, and this one is not ruled out
+abbrev pub invariant-loop-at : goal.invariant-loop-at
+invariant-loop-at g l = record {
   metric : g.R.Ruler.metric l.ruler ≡ g.R.Ruler.metric l.fn.ruler;
-  counted : count_up (g.R.Ruler.used l.ruler) (measured_by (inner_marks (search_at (g.R.M.Metric.space (g.R.Ruler.metric l.fn.ruler)) l.probe.q.now l.probe.rho) l.above (drop l.index l.entries)))
-      ≡ count_up (g.R.Ruler.used l.fn.ruler) (measured_by (inner_marks (search_at (g.R.M.Metric.space (g.R.Ruler.metric l.fn.ruler)) l.probe.q.now l.probe.rho) l.above l.entries));
-  marks : l.marks.items ++ inner_marks (search_at (g.R.M.Metric.space (g.R.Ruler.metric l.fn.ruler)) l.probe.q.now l.probe.rho) l.above (drop l.index l.entries)
-      ≡ l.fn.marks.items ++ inner_marks (search_at (g.R.M.Metric.space (g.R.Ruler.metric l.fn.ruler)) l.probe.q.now l.probe.rho) l.above l.entries;
-  named : l.needs.items ++ inner_needs (search_at (g.R.M.Metric.space (g.R.Ruler.metric l.fn.ruler)) l.probe.q.now l.probe.rho) l.above (drop l.index l.entries)
-      ≡ l.fn.needs.items ++ inner_needs (search_at (g.R.M.Metric.space (g.R.Ruler.metric l.fn.ruler)) l.probe.q.now l.probe.rho) l.above l.entries;
+  next : (e : InnerEntry) → l.at < length l.entries → parent_skips l.above (get_or l.entries l.at e).parent l.probe.rho (get_or l.entries l.at e).radius ≡ false;
+  marked : IsMarkedTo (least_for_subtree (search_at (g.R.M.Metric.space (g.R.Ruler.metric l.fn.ruler)) l.probe.q.now l.probe.rho) l.above)
+      (need_of (search_at (g.R.M.Metric.space (g.R.Ruler.metric l.fn.ruler)) l.probe.q.now l.probe.rho))
+      l.entries l.at l.marks.items (g.R.Ruler.used l.fn.ruler) (g.R.Ruler.used l.ruler) l.fn.needs.items l.needs.items;
 }
+
+abbrev pub decreases-loop-at : goal.decreases-loop-at
+decreases-loop-at g l = length l.entries - l.at

@@ -1,17 +1,18 @@
-use Rattle.std.proofs.Common.{◌≡◌, ◌++◌, drop}
-use Rattle.metric_laws.specs.Counts.{count_up}
-use Rattle.log_model.specs.Counts.{measured_by}
-use Rattle.log_model.specs.Walk.{leaf_marks, leaf_hits, search_at}
+use Rattle.std.proofs.Common.{◌≡◌, ◌-◌, ◌<◌, false, length, get_or}
+use Rattle.tree_shape.specs.declared.entry.LeafEntry.{LeafEntry}
+use Rattle.log_model.specs.Walk.{search_at, parent_skips, least_for_object, hit_of}
+use Rattle.log_model.proofs.Marked.{IsMarkedTo}
 use Rattle.log_model.proofs.marking.mark_leaf.Given as goal
 
--- what was marked, named and counted so far, and what the rest adds
-abbrev pub invariant-loop-index : goal.invariant-loop-index
-invariant-loop-index g l = record {
+-- the objects before this one were marked, and this one is not ruled out
+abbrev pub invariant-loop-at : goal.invariant-loop-at
+invariant-loop-at g l = record {
   metric : g.R.Ruler.metric l.ruler ≡ g.R.Ruler.metric l.fn.ruler;
-  counted : count_up (g.R.Ruler.used l.ruler) (measured_by (leaf_marks (search_at (g.R.M.Metric.space (g.R.Ruler.metric l.fn.ruler)) l.probe.q.now l.probe.rho) l.above (drop l.index l.entries)))
-      ≡ count_up (g.R.Ruler.used l.fn.ruler) (measured_by (leaf_marks (search_at (g.R.M.Metric.space (g.R.Ruler.metric l.fn.ruler)) l.probe.q.now l.probe.rho) l.above l.entries));
-  marks : l.marks.items ++ leaf_marks (search_at (g.R.M.Metric.space (g.R.Ruler.metric l.fn.ruler)) l.probe.q.now l.probe.rho) l.above (drop l.index l.entries)
-      ≡ l.fn.marks.items ++ leaf_marks (search_at (g.R.M.Metric.space (g.R.Ruler.metric l.fn.ruler)) l.probe.q.now l.probe.rho) l.above l.entries;
-  named : l.hits.items ++ leaf_hits (search_at (g.R.M.Metric.space (g.R.Ruler.metric l.fn.ruler)) l.probe.q.now l.probe.rho) l.above (drop l.index l.entries)
-      ≡ l.fn.hits.items ++ leaf_hits (search_at (g.R.M.Metric.space (g.R.Ruler.metric l.fn.ruler)) l.probe.q.now l.probe.rho) l.above l.entries;
+  next : (e : LeafEntry) → l.at < length l.entries → parent_skips l.above (get_or l.entries l.at e).parent l.probe.rho 0 ≡ false;
+  marked : IsMarkedTo (least_for_object (search_at (g.R.M.Metric.space (g.R.Ruler.metric l.fn.ruler)) l.probe.q.now l.probe.rho) l.above)
+      (hit_of (search_at (g.R.M.Metric.space (g.R.Ruler.metric l.fn.ruler)) l.probe.q.now l.probe.rho))
+      l.entries l.at l.marks.items (g.R.Ruler.used l.fn.ruler) (g.R.Ruler.used l.ruler) l.fn.hits.items l.hits.items;
 }
+
+abbrev pub decreases-loop-at : goal.decreases-loop-at
+decreases-loop-at g l = length l.entries - l.at
