@@ -31,20 +31,20 @@ pub record IsMarkedTo {X Y : Type 0} (least : X → Mark) (name : X → Y) (es :
   pub named : new ++ named_by least name (drop at es) ≡ old ++ named_by least name es
 
 module _ {X : Type 0} (least : X → Mark) where
-  length-marked : (at : ℕ) (es : List X) → length (marked_to least at es) ≡ length es
+  pub length-marked : (at : ℕ) (es : List X) → length (marked_to least at es) ≡ length es
   length-marked zero [] = refl
   length-marked zero (e ∷ es) = ap suc (length-marked zero es)
   length-marked (suc at) [] = refl
   length-marked (suc at) (e ∷ es) = ap suc (length-marked at es)
 
   -- an entry is marked
-  marked_next : (at : ℕ) (es : List X) (e : X) (m : Mark) → at < length es → e ≡ get_or es at e → least e ≡ m → set (marked_to least at es) at m ≡ marked_to least (suc at) es
+  pub marked_next : (at : ℕ) (es : List X) (e : X) (m : Mark) → at < length es → e ≡ get_or es at e → least e ≡ m → set (marked_to least at es) at m ≡ marked_to least (suc at) es
   marked_next at [] e m low is mark = absurd (omega arith)
   marked_next zero (x ∷ es) e m low is mark = ap (λ (n : Mark). n ∷ replicate (length es) Skip) (sym mark ∙ ap least is)
   marked_next (suc at) (x ∷ es) e m low is mark = ap (λ (ms : List Mark). least x ∷ ms) (marked_next at es e m (omega arith) is mark)
 
   -- entries that are marked Skip need no new mark
-  marked_skipped : (at next : ℕ) (es : List X) → at ≤ next → AreSkipped least at next es → marked_to least at es ≡ marked_to least next es
+  pub marked_skipped : (at next : ℕ) (es : List X) → at ≤ next → AreSkipped least at next es → marked_to least at es ≡ marked_to least next es
   marked_skipped zero zero es low out = refl
   marked_skipped zero (suc next) [] low out = refl
   marked_skipped zero (suc next) (e ∷ es) low out =
@@ -55,7 +55,7 @@ module _ {X : Type 0} (least : X → Mark) where
   marked_skipped (suc at) (suc next) (e ∷ es) low out =
       ap (λ (ms : List Mark). least e ∷ ms) (marked_skipped at next es (omega arith) (λ k d from to. out (suc k) d (omega arith) (omega arith)))
 
-  marked_all : (at : ℕ) (es : List X) → length es ≤ at → marked_to least at es ≡ map least es
+  pub marked_all : (at : ℕ) (es : List X) → length es ≤ at → marked_to least at es ≡ map least es
   marked_all zero [] high = refl
   marked_all zero (e ∷ es) high = absurd (omega arith)
   marked_all (suc at) [] high = refl

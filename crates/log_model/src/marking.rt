@@ -7,7 +7,7 @@ ghost use Rattle.tree_shape.specs.declared.entry.InnerEntry.{InnerEntry};
 ghost use Rattle.log_model.specs.Counts.{measured_by};
 ghost use Rattle.log_model.specs.Walk.{search_at, parent_skips, leaf_marks, inner_marks, leaf_hits, inner_needs};
 
-use crate::{Mark, Need};
+use crate::{Mark, Need, NodeMarks};
 use metric_laws::{Ruler, centre_test, parent_test};
 use scan_model::Hit;
 use std::alloc::{AllocError, Global};
@@ -91,28 +91,28 @@ pub(crate) fn mark_leaf<R: Ruler>(
     above: Option<u64>,
     entries: &LeafEntries,
     hits: &mut Vec<Hit>,
-) -> Result<Vec<Mark>, AllocError>
+) -> Result<NodeMarks, AllocError>
     ensures metric { R.metric ruler.new ≡ R.metric ruler.old }
     ensures counted { OnOk result
         (R.used ruler.new ≡ count_up (R.used ruler.old)
         (measured_by (leaf_marks (search_at (R.M.space (R.metric ruler.old)) probe.entry.q.now probe.entry.rho) above
         entries.now))) }
     ensures marks { IfOk result (λ marks.
-        marks.items ≡ leaf_marks (search_at (R.M.space (R.metric ruler.old)) probe.entry.q.now probe.entry.rho) above entries.now) }
+        marks ≡ leaf_marks (search_at (R.M.space (R.metric ruler.old)) probe.entry.q.now probe.entry.rho) above entries.now) }
     ensures hits { OnOk result
         (hits.new.items ≡ hits.old.items ++ leaf_hits
         (search_at (R.M.space (R.metric ruler.old)) probe.entry.q.now probe.entry.rho) above entries.now) }
 {
     let objects = entries.seen();
-    let mut marks = vec![in alloc; Mark::Skip; objects.len()]?;
+    let mut marks = NodeMarks::all_skipped(alloc, objects.len())?;
     let mut at = next_object(above, probe.rho, &objects, 0);
     while at < objects.len() {
         let entry = objects.at(at);
         let dist = ruler.dist(entry.point, probe.q);
         if centre_test(dist, probe.rho, 0) {
-            marks[at] = Mark::Far;
+            marks.set(at, Mark::Far);
         } else {
-            marks[at] = Mark::Near;
+            marks.set(at, Mark::Near);
             hits.push(Hit { id: entry.id, dist })?;
         }
         at = next_object(above, probe.rho, &objects, at + 1);
@@ -128,28 +128,28 @@ pub(crate) fn mark_inner<R: Ruler>(
     above: Option<u64>,
     entries: &InnerEntries,
     needs: &mut Vec<Need>,
-) -> Result<Vec<Mark>, AllocError>
+) -> Result<NodeMarks, AllocError>
     ensures metric { R.metric ruler.new ≡ R.metric ruler.old }
     ensures counted { OnOk result
         (R.used ruler.new ≡ count_up (R.used ruler.old)
         (measured_by (inner_marks (search_at (R.M.space (R.metric ruler.old)) probe.entry.q.now probe.entry.rho) above
         entries.now))) }
     ensures marks { IfOk result (λ marks.
-        marks.items ≡ inner_marks (search_at (R.M.space (R.metric ruler.old)) probe.entry.q.now probe.entry.rho) above entries.now) }
+        marks ≡ inner_marks (search_at (R.M.space (R.metric ruler.old)) probe.entry.q.now probe.entry.rho) above entries.now) }
     ensures needs { OnOk result
         (needs.new.items ≡ needs.old.items ++ inner_needs
         (search_at (R.M.space (R.metric ruler.old)) probe.entry.q.now probe.entry.rho) above entries.now) }
 {
     let subtrees = entries.seen();
-    let mut marks = vec![in alloc; Mark::Skip; subtrees.len()]?;
+    let mut marks = NodeMarks::all_skipped(alloc, subtrees.len())?;
     let mut at = next_subtree(above, probe.rho, &subtrees, 0);
     while at < subtrees.len() {
         let entry = subtrees.at(at);
         let dist = ruler.dist(entry.point, probe.q);
         if centre_test(dist, probe.rho, entry.radius) {
-            marks[at] = Mark::Far;
+            marks.set(at, Mark::Far);
         } else {
-            marks[at] = Mark::Near;
+            marks.set(at, Mark::Near);
             needs.push(Need {
                 page: entry.child,
                 above: Some(dist),

@@ -1,8 +1,11 @@
+use crate::NodeMarks;
 use metric_laws::Listed;
 
 /// What a search decided about an entry of a node.
-#[derive(Clone, Copy, PartialEq, Eq)]
+// The default is what an unused place of `NodeMarks` holds.
+#[derive(Clone, Copy, Default, PartialEq, Eq)]
 pub enum Mark {
+    #[default]
     /// Ruled out by the parent test, from stored distances to the routing object above (VLDB 1997, section 3.2).
     Skip,
     /// Ruled out by the centre test, from the computed distance to the entry.
@@ -17,7 +20,7 @@ pub struct Record {
     /// The node's page.
     pub page: u32,
     /// One mark for each entry, in the node's order.
-    pub marks: Listed<Mark>,
+    pub marks: NodeMarks,
 }
 
 /// The decisions of a join on one node of either tree.

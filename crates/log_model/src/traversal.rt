@@ -8,10 +8,13 @@ ghost use Rattle.log_model.specs.Steps.{TakesNode};
 
 use crate::marking::{mark_inner, mark_leaf};
 use crate::{Need, Probe, Record};
-use metric_laws::{Listed, Ruler};
+use metric_laws::Ruler;
 use scan_model::Hit;
 use std::alloc::{AllocError, Global};
 use tree_shape::Node;
+
+/// The records that have room at once: many walks open no more nodes.
+const SOME_RECORDS: usize = 64;
 
 /// What a walk has named and recorded so far, and what it still has to open.
 #[derive(Drop)]
@@ -59,7 +62,7 @@ impl Traversal {
         ]?;
         Ok(Traversal {
             hits: Vec::new(alloc),
-            records: Vec::new(alloc),
+            records: Vec::with_capacity(alloc, SOME_RECORDS)?,
             stack,
         })
     }
@@ -95,7 +98,7 @@ impl Traversal {
         };
         self.records.push(Record {
             page: need.page,
-            marks: Listed::new(marks),
+            marks,
         })?;
         Ok(())
     }

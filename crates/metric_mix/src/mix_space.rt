@@ -2,7 +2,7 @@ ghost use Rattle.std.specs.Prelude.{◌≡◌, ◌≤◌, ◌<◌, ◌↔◌, �
 ghost use Rattle.metric_mix.specs.MixSpaces.{is_valid, mix_name};
 
 use crate::{Capped, Halves, Hausdorff, Joining, Kendall};
-use metric_laws::Metric;
+use metric_laws::{BOUND, Metric};
 use vector_kinds::{Hamming, L1, Max, Space, SpaceFault};
 
 /// The greatest distance of an `l1cap` space.
@@ -120,7 +120,8 @@ impl MixSpace {
     // It stands apart, so that a plain metric pays nothing for the composed ones.
     #[inline(never)]
     fn any_dist(&self, a: &[u32], b: &[u32]) -> u64
-        ensures { result ≡ (mix_space (mix_kind self.now) (mix_dim self.now)).dist a.now b.now }
+        ensures value { result ≡ (mix_space (mix_kind self.now) (mix_dim self.now)).dist a.now b.now }
+        ensures bounded { result ≤ BOUND }
     {
         match self {
             MixSpace::Plain(space) => space.dist(a, b),

@@ -1,5 +1,5 @@
 -- What was seen of an entry gives its least mark at each radius up to that of the search.
-use Rattle.std.proofs.Common.{◌≡◌, ℕ, zero, suc, ◌+◌, ◌-◌, ◌<◌, ◌≤◌, Bool, true, false, List, [], ◌∷◌, ◌++◌, refl, sym, ap, ◌∙◌, arith, length, append_assoc, drop, drop-cons, add-one, get_or, Option, Some, None}
+use Rattle.std.proofs.Common.{◌≡◌, ℕ, zero, suc, ◌+◌, ◌-◌, ◌<◌, ◌≤◌, Bool, true, false, List, [], ◌∷◌, ◌++◌, refl, sym, ap, ◌∙◌, arith, length, append_assoc, drop, drop-cons, add-one, get_or, set, Option, Some, None}
 use Rattle.std.specs.Prelude.{map, nat_lt, if◌then◌else◌}
 use Rattle.std.proofs.lemmas.Bool.Decides.{nat_tests}
 use Rattle.metric_laws.specs.Space.{Space}
@@ -10,6 +10,7 @@ use Rattle.tree_shape.specs.declared.entry.InnerEntry.{InnerEntry}
 use Rattle.log_model.specs.declared.marks.Mark.{Mark}
 use Rattle.log_model.specs.declared.marks.Mark.TheVariants.{Skip, Far, Near}
 use Rattle.log_model.specs.declared.marks.Need.{Need}
+use Rattle.log_model.proofs.Published.{marked_to, marked_next, marked_skipped}
 use Rattle.log_model.specs.Walk.{search_at, parent_skips, least_for_object, least_for_subtree, leaf_marks, inner_marks, leaf_hits, inner_needs, near_ones, hit_of, need_of}
 use Rattle.nearest_search.specs.declared.pending.Pending.{Pending}
 use Rattle.nearest_search.specs.declared.seen.Sight.{Sight}
@@ -59,6 +60,16 @@ module _ (rho : ℕ) (xs : List Sight) (i : ℕ) (x : Sight) (low : i < length x
 
   pub far_next : is_near (mark_at rho x) ≡ false → seen_near rho (drop i xs) ≡ seen_near rho (drop (i + 1) xs)
   far_next far = rw (add-one, drop-cons xs i x low, ← is, far) refl
+
+-- the marks of the sights before one, and what becomes of them at the next
+module _ (rho : ℕ) (xs : List Sight) (i : ℕ) (x : Sight) (low : i < length xs) (is : x ≡ get_or xs i x) (marks : List Mark) (so_far : marks ≡ marked_to (mark_at rho) i xs) where
+  pub mark_set : (m : Mark) → mark_at rho x ≡ m → set marks i m ≡ marked_to (mark_at rho) (i + 1) xs
+  mark_set m mark = rw (add-one, so_far) (marked_next (mark_at rho) i xs x m low is mark)
+
+  pub mark_left : mark_at rho x ≡ Skip → marks ≡ marked_to (mark_at rho) (i + 1) xs
+  mark_left mark = so_far ∙ marked_skipped (mark_at rho) i (i + 1) xs (omega arith) (λ k d from to.
+      let here : k ≡ i = omega arith in
+      ap (λ (j : ℕ). mark_at rho (get_or xs j d)) here ∙ ap (mark_at rho) (same_entry xs i d x low ∙ sym is) ∙ mark)
 
 module _ (rho : ℕ) (xs : List Sight) (i : ℕ) (x : Sight) (some : 0 < i) (most : i ≤ length xs) (is : x ≡ get_or xs (i - 1) x) where
   back : i - 1 + 1 ≡ i

@@ -6,9 +6,8 @@ ghost use Rattle.nearest_search.specs.Keeping.{kept_seen, KeepsFew, SpansFit};
 ghost use Rattle.nearest_search.specs.RebuiltLog.{TakesSeen, IsRebuiltLog};
 
 use crate::kept::{Kept, Turn};
-use crate::seen::{Sheet, Sight, is_near};
-use log_model::{Mark, Need, Record, Traversal};
-use metric_laws::Listed;
+use crate::seen::{Sheet, Sight};
+use log_model::{Mark, Need, NodeMarks, Record, Traversal};
 use scan_model::Hit;
 use std::alloc::{AllocError, Global};
 use tree_shape::Live;
@@ -19,21 +18,24 @@ fn mark_objects(
     hits: &mut Vec<Hit>,
     rho: u64,
     seen: &[Sight],
-) -> Result<Vec<Mark>, AllocError>
+) -> Result<NodeMarks, AllocError>
     ensures hits { OnOk result (hits.new.items ≡ hits.old.items ++ map hit_seen (seen_near rho seen.now)) }
-    ensures marks { IfOk result (λ marks. marks.items ≡ map (mark_at rho) seen.now) }
+    ensures marks { IfOk result (λ marks. marks ≡ map (mark_at rho) seen.now) }
 {
-    let mut marks = Vec::with_capacity(alloc, seen.len())?;
-    for sight in seen {
-        let mark = sight.mark(rho);
-        marks.push(mark)?;
-        if !is_near(mark) {
-            continue;
+    let mut marks = NodeMarks::all_skipped(alloc, seen.len())?;
+    for index in 0..seen.len() {
+        let sight = seen[index];
+        match sight.mark(rho) {
+            Mark::Skip => {}
+            Mark::Far => marks.set(index, Mark::Far),
+            Mark::Near => {
+                marks.set(index, Mark::Near);
+                hits.push(Hit {
+                    id: sight.name,
+                    dist: sight.dist,
+                })?;
+            }
         }
-        hits.push(Hit {
-            id: sight.name,
-            dist: sight.dist,
-        })?;
     }
     Ok(marks)
 }
@@ -56,24 +58,21 @@ fn push_needs(stack: &mut Vec<Need>, rho: u64, seen: &[Sight]) -> Result<(), All
 }
 
 // Returns the least marks of `seen` at the radius `rho`.
-fn marks_at(alloc: Global, rho: u64, seen: &[Sight]) -> Result<Vec<Mark>, AllocError>
-    ensures { IfOk result (λ marks. marks.items ≡ map (mark_at rho) seen.now) }
+fn marks_at(alloc: Global, rho: u64, seen: &[Sight]) -> Result<NodeMarks, AllocError>
+    ensures { IfOk result (λ marks. marks ≡ map (mark_at rho) seen.now) }
 {
-    let mut marks = Vec::with_capacity(alloc, seen.len())?;
+    let mut marks = NodeMarks::all_skipped(alloc, seen.len())?;
     for index in 0..seen.len() {
-        marks.push(seen[index].mark(rho))?;
+        marks.set(index, seen[index].mark(rho));
     }
     Ok(marks)
 }
 
 // Appends the record of `page` with the marks of its entries.
-fn push_record(records: &mut Vec<Record>, page: u32, marks: Vec<Mark>) -> Result<(), AllocError>
-    ensures { OnOk result (records.new.items ≡ records.old.items ++ record { page = page; marks = marks.items } ∷ []) }
+fn push_record(records: &mut Vec<Record>, page: u32, marks: NodeMarks) -> Result<(), AllocError>
+    ensures { OnOk result (records.new.items ≡ records.old.items ++ record { page = page; marks = marks } ∷ []) }
 {
-    records.push(Record {
-        page,
-        marks: Listed::new(marks),
-    })?;
+    records.push(Record { page, marks })?;
     Ok(())
 }
 

@@ -8,6 +8,9 @@ use crate::kth::Best;
 use crate::pending::Pending;
 use std::alloc::{AllocError, Global};
 
+/// The subtrees that have room at once: in many searches no more wait.
+const SOME_WAITING: usize = 128;
+
 /// The state of a search between two steps.
 #[derive(Drop)]
 pub struct Machine {
@@ -23,7 +26,7 @@ pub struct Machine {
 fn waiting_root(alloc: Global, root: u32) -> Result<Frontier, AllocError>
     ensures { IfOk result (λ f. f ≡ pending_root root ∷ []) }
 {
-    let mut frontier = Frontier::new(alloc);
+    let mut frontier = Frontier::with_capacity(alloc, SOME_WAITING)?;
     frontier.add(Pending {
         low: 0,
         page: root,

@@ -38,6 +38,14 @@ impl<T: Ord + Drop> MinQueue<T> {
         }
     }
 
+    /// Makes an empty queue with room for `count`.
+    pub fn with_capacity(alloc: Global, count: usize) -> Result<Self, AllocError>
+        ensures { IfOk result (λ queue. queue ≡ []) }
+    {
+        let heap = BinaryHeap::with_capacity(alloc, count)?;
+        Ok(MinQueue { heap })
+    }
+
     /// Adds `x`.
     pub fn add(&mut self, x: T) -> Result<(), AllocError>
         ensures { OnOk result (IsPermutation (x ∷ self.old) self.new) }

@@ -142,6 +142,8 @@ fn sum_of_many(a: &[u32], b: &[u32]) -> u64
 }
 
 /// Adds the differences.
+// It is in a distance by L1, so that the arguments stay where they came.
+#[inline(always)]
 pub fn sum(a: &[u32], b: &[u32]) -> u64
     requires { length a.now ≤ 64 }
     ensures { result ≡ sum_by (λ p. gap p.0 p.1) (zip a.now b.now) }

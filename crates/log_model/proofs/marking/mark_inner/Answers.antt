@@ -26,24 +26,24 @@ loop-at-init g c =
     let next = c.next_subtree-at in
     let used = g.R.Ruler.used c.args.ruler.now in
     let needs = c.args.needs.now.items in
-    let none : c.in_ok-marks.marks.items ≡ replicate (length es) Skip = c.in_ok-marks.ensures.items_if_clones_equal (λ m same. same) ∙ ap (λ (n : ℕ). replicate n Skip) (cc (c.len.ensures, seen.ensures)) in
+    let none : c.in_ok-marks.marks ≡ replicate (length es) Skip = c.in_ok-marks.ensures ∙ ap (λ (n : ℕ). replicate n Skip) (cc (c.len.ensures, seen.ensures)) in
     record {
       metric = refl;
       next = unskipped f c.args.above next.result seen.result es seen.ensures next.ensures.next;
-      marked = skipped (least_for_subtree f c.args.above) (need_of f) es 0 next.result c.in_ok-marks.marks.items used used needs needs next.ensures.low
+      marked = skipped (least_for_subtree f c.args.above) (need_of f) es 0 next.result c.in_ok-marks.marks used used needs needs next.ensures.low
           (ruled_out f c.args.above 0 next.result seen.result es seen.ensures next.ensures.ruled_out)
           (rw none (begun (least_for_subtree f c.args.above) (need_of f) es used needs));
     }
 
-pub index_mut-requires : goal.index_mut-requires
-index_mut-requires g c =
+pub set-requires : goal.set-requires
+set-requires g c =
     let f : Search = search_at (g.R.M.Metric.space (g.R.Ruler.metric c.args.ruler.now)) c.args.probe.q.now c.args.probe.rho in
-    omega (arith, c.loop-at.marks.ok.0, length-made (least_for_subtree f c.args.above) (need_of f) c.args.entries.now c.loop-at.at c.loop-at.marks.items (g.R.Ruler.used c.args.ruler.now) (g.R.Ruler.used c.loop-at.ruler) c.args.needs.now.items c.loop-at.needs.items c.loop-at.invariant.marked, c.loop-at-test.true, c.len-in-loop-at.ensures, ap length c.seen-subtrees.ensures)
+    omega (arith, length-made (least_for_subtree f c.args.above) (need_of f) c.args.entries.now c.loop-at.at c.loop-at.marks (g.R.Ruler.used c.args.ruler.now) (g.R.Ruler.used c.loop-at.ruler) c.args.needs.now.items c.loop-at.needs.items c.loop-at.invariant.marked, c.loop-at-test.true, c.len-in-loop-at.ensures, ap length c.seen-subtrees.ensures)
 
-pub index_mut-requires-else-centre_test : goal.index_mut-requires-else-centre_test
-index_mut-requires-else-centre_test g c =
+pub set-requires-else-centre_test : goal.set-requires-else-centre_test
+set-requires-else-centre_test g c =
     let f : Search = search_at (g.R.M.Metric.space (g.R.Ruler.metric c.args.ruler.now)) c.args.probe.q.now c.args.probe.rho in
-    omega (arith, c.loop-at.marks.ok.0, length-made (least_for_subtree f c.args.above) (need_of f) c.args.entries.now c.loop-at.at c.loop-at.marks.items (g.R.Ruler.used c.args.ruler.now) (g.R.Ruler.used c.loop-at.ruler) c.args.needs.now.items c.loop-at.needs.items c.loop-at.invariant.marked, c.loop-at-test.true, c.len-in-loop-at.ensures, ap length c.seen-subtrees.ensures)
+    omega (arith, length-made (least_for_subtree f c.args.above) (need_of f) c.args.entries.now c.loop-at.at c.loop-at.marks (g.R.Ruler.used c.args.ruler.now) (g.R.Ruler.used c.loop-at.ruler) c.args.needs.now.items c.loop-at.needs.items c.loop-at.invariant.marked, c.loop-at-test.true, c.len-in-loop-at.ensures, ap length c.seen-subtrees.ensures)
 
 pub loop-at-preserved : goal.loop-at-preserved
 loop-at-preserved g c =
@@ -64,18 +64,18 @@ loop-at-preserved g c =
     let left : is_skipped f c.args.above e.parent e.radius ≡ false = ap (λ (d : InnerEntry). is_skipped f c.args.above d.parent d.radius) is ∙ so_far.next e low in
     let dist : c.dist-dist.result ≡ away f e.point = cc (c.dist-dist.ensures.value, so_far.metric) in
     let need : ◌≡◌ {A = Need} (record { page = e.child; above = Some c.dist-dist.result }) (need_of f e) = ap (λ (d : ℕ). record { page = e.child; above = Some d }) dist in
-    let here : IsMarkedTo (least_for_subtree f c.args.above) (need_of f) es (at + 1) c.if-centre_test.marks.items used used3 needs c.if-centre_test.needs.items =
+    let here : IsMarkedTo (least_for_subtree f c.args.above) (need_of f) es (at + 1) c.if-centre_test.marks used used3 needs c.if-centre_test.needs.items =
     elim c.if-centre_test.branch [
       | then-centre_test w ↦
           (
-          rw (w.marks-is, w.needs-is)
-          (far_next (least_for_subtree f c.args.above) (need_of f) es at e low is c.loop-at.marks.items used used2 used3 needs needs2
+          rw (w.marks-is, w.set.ensures, w.needs-is)
+          (far_next (least_for_subtree f c.args.above) (need_of f) es at e low is c.loop-at.marks used used2 used3 needs needs2
           (subtree_far f c.args.above e left (cc (c.centre_test.ensures, w.if-centre_test.true, dist))) c.dist-dist.ensures.counted so_far.marked)
           )
       | else-centre_test+in_ok-push w ↦
           (
-          rw (w.marks-is, w.needs-is)
-          (near_next (least_for_subtree f c.args.above) (need_of f) es at e low is c.loop-at.marks.items used used2 used3 needs needs2 w.push.new.self.items
+          rw (w.marks-is, w.set-else-centre_test.ensures, w.needs-is)
+          (near_next (least_for_subtree f c.args.above) (need_of f) es at e low is c.loop-at.marks used used2 used3 needs needs2 w.push.new.self.items
           (subtree_near f c.args.above e left (cc (c.centre_test.ensures, w.if-centre_test.false, dist))) c.dist-dist.ensures.counted
           (w.in_ok-push.ensures.items ∙ ap (λ (n : Need). needs2 ++ n ∷ []) need) so_far.marked)
           )
@@ -83,12 +83,12 @@ loop-at-preserved g c =
     record {
       metric = c.dist-dist.ensures.same ∙ so_far.metric;
       next = unskipped f c.args.above next.result seen.result es seen.ensures next.ensures.next;
-      marked = skipped (least_for_subtree f c.args.above) (need_of f) es (at + 1) next.result c.if-centre_test.marks.items used used3 needs c.if-centre_test.needs.items next.ensures.low
+      marked = skipped (least_for_subtree f c.args.above) (need_of f) es (at + 1) next.result c.if-centre_test.marks used used3 needs c.if-centre_test.needs.items next.ensures.low
           (ruled_out f c.args.above (at + 1) next.result seen.result es seen.ensures next.ensures.ruled_out) here;
     }
 
 pub returns-clause-marks : goal.returns-clause-marks
 returns-clause-marks g c =
     let f : Search = search_at (g.R.M.Metric.space (g.R.Ruler.metric c.args.ruler.now)) c.args.probe.q.now c.args.probe.rho in
-    (all_marked (least_for_subtree f c.args.above) (need_of f) c.args.entries.now c.loop-at.at c.loop-at.marks.items (g.R.Ruler.used c.args.ruler.now) (g.R.Ruler.used c.loop-at.ruler) c.args.needs.now.items c.loop-at.needs.items
+    (all_marked (least_for_subtree f c.args.above) (need_of f) c.args.entries.now c.loop-at.at c.loop-at.marks (g.R.Ruler.used c.args.ruler.now) (g.R.Ruler.used c.loop-at.ruler) c.args.needs.now.items c.loop-at.needs.items
     (omega (arith, c.loop-at-test.false, c.len-in-loop-at.ensures, ap length c.seen-subtrees.ensures)) c.loop-at.invariant.marked).0

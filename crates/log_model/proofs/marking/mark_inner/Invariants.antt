@@ -11,7 +11,7 @@ invariant-loop-at g l = record {
   next : (e : InnerEntry) → l.at < length l.entries → parent_skips l.above (get_or l.entries l.at e).parent l.probe.rho (get_or l.entries l.at e).radius ≡ false;
   marked : IsMarkedTo (least_for_subtree (search_at (g.R.M.Metric.space (g.R.Ruler.metric l.fn.ruler)) l.probe.q.now l.probe.rho) l.above)
       (need_of (search_at (g.R.M.Metric.space (g.R.Ruler.metric l.fn.ruler)) l.probe.q.now l.probe.rho))
-      l.entries l.at l.marks.items (g.R.Ruler.used l.fn.ruler) (g.R.Ruler.used l.ruler) l.fn.needs.items l.needs.items;
+      l.entries l.at l.marks (g.R.Ruler.used l.fn.ruler) (g.R.Ruler.used l.ruler) l.fn.needs.items l.needs.items;
 }
 
 abbrev pub decreases-loop-at : goal.decreases-loop-at

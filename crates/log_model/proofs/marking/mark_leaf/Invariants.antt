@@ -11,7 +11,7 @@ invariant-loop-at g l = record {
   next : (e : LeafEntry) → l.at < length l.entries → parent_skips l.above (get_or l.entries l.at e).parent l.probe.rho 0 ≡ false;
   marked : IsMarkedTo (least_for_object (search_at (g.R.M.Metric.space (g.R.Ruler.metric l.fn.ruler)) l.probe.q.now l.probe.rho) l.above)
       (hit_of (search_at (g.R.M.Metric.space (g.R.Ruler.metric l.fn.ruler)) l.probe.q.now l.probe.rho))
-      l.entries l.at l.marks.items (g.R.Ruler.used l.fn.ruler) (g.R.Ruler.used l.ruler) l.fn.hits.items l.hits.items;
+      l.entries l.at l.marks (g.R.Ruler.used l.fn.ruler) (g.R.Ruler.used l.ruler) l.fn.hits.items l.hits.items;
 }
 
 abbrev pub decreases-loop-at : goal.decreases-loop-at

@@ -1,7 +1,8 @@
-use Rattle.std.proofs.Common.{◌≡◌, ◌++◌, map, drop}
+use Rattle.std.proofs.Common.{◌≡◌}
+use Rattle.log_model.proofs.Published.{marked_to}
 use Rattle.nearest_search.specs.Seeing.{mark_at}
 use Rattle.nearest_search.proofs.logging.marks_at.Given as goal
 
--- the marks so far, and those of the rest
+-- the marks so far
 abbrev pub invariant-loop-index : goal.invariant-loop-index
-invariant-loop-index l = l.marks.items ++ map (mark_at l.rho) (drop l.index l.seen) ≡ map (mark_at l.rho) l.seen
+invariant-loop-index l = l.marks ≡ marked_to (mark_at l.rho) l.index l.seen

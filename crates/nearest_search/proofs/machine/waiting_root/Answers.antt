@@ -7,4 +7,4 @@ use Rattle.nearest_search.proofs.machine.waiting_root.Goals as goal
 
 pub returns : goal.returns
 returns c = one_alone (pending_root c.args.root) c.add.new.self
-    (subst (λ (ys : List Pending). IsPermutation (pending_root c.args.root ∷ ys) c.add.new.self) c.new-frontier.ensures c.in_ok-add.ensures)
+    (subst (λ (ys : List Pending). IsPermutation (pending_root c.args.root ∷ ys) c.add.new.self) c.in_ok-frontier.ensures c.in_ok-add.ensures)
