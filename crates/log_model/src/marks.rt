@@ -1,5 +1,4 @@
 use crate::NodeMarks;
-use metric_laws::Listed;
 
 /// What a search decided about an entry of a node.
 // The default is what an unused place of `NodeMarks` holds.
@@ -31,7 +30,7 @@ pub struct JoinRecord {
     /// The node's page.
     pub page: u32,
     /// One mark for each entry, in the node's order.
-    pub marks: Listed<Mark>,
+    pub marks: NodeMarks,
 }
 
 /// A page that a walk still has to open.

@@ -165,7 +165,7 @@ impl Piece for Pair {
 
 // Reads the marks of a node, at most as many as a node may have entries.
 #[tactic(auto, unfolding(crate::specs::Reading::marks_at))]
-fn marks_at(alloc: Global, bytes: &[u8]) -> Result<(Listed<Mark>, &[u8]), LogFault>
+fn marks_at(alloc: Global, bytes: &[u8]) -> Result<(NodeMarks, &[u8]), LogFault>
     ensures { Gives (λ x. (x.0, x.1.now)) result (marks_at bytes.now) }
 {
     let (count, rest) = byte_at(bytes)?;
@@ -173,7 +173,7 @@ fn marks_at(alloc: Global, bytes: &[u8]) -> Result<(Listed<Mark>, &[u8]), LogFau
         return Err(LogFault::Mark);
     }
     let (marks, rest) = read_all(alloc, u64::from(count), rest)?;
-    Ok((Listed::new(marks), rest))
+    Ok((NodeMarks::from_slice(alloc, marks.as_slice())?, rest))
 }
 
 // Returns the bytes of a node's marks at the front of an array.
