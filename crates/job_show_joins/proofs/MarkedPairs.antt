@@ -5,6 +5,7 @@ use Rattle.metric_laws.specs.Space.{Space}
 use Rattle.log_model.specs.declared.marks.Mark.{Mark}
 use Rattle.log_model.specs.declared.marks.Mark.TheVariants.{Skip, Far, Near}
 use Rattle.log_model.specs.declared.pairs.JoinNeed.{JoinNeed}
+use Rattle.log_model.specs.Items.{Item}
 use Rattle.log_model.specs.Walk.{near_ones}
 use Rattle.log_model.specs.JoinWalk.{Entry, with_entry}
 use Rattle.log_model.specs.JoinSteps.{needs_among, paired}
@@ -55,13 +56,13 @@ need_first entry s n e es apart Near marks same =
     ∙ ap (λ (p : JoinNeed). needs_among (p ∷ []) ++ needs_from entry s n es marks) (sym (ap (paired n (entry e).item) (same refl) ∙ paired_same s n (entry e)))
 
 -- the pairs that the entries so far need, and those that are left
-pub needs_next : {X : Type 0} (entry : X → Entry) (s : Space) (n : JoinNeed) (es : List X) (marks : List Mark) (i : ℕ) (e : X) (apart : Option ℕ) (old new whole : List JoinNeed) → i < length es → length marks ≡ length es → e ≡ get_or es i e
-    → (get_or marks i Skip ≡ Near → apart ≡ (with_entry s n (entry e)).apart) → new ≡ old ++ needs_among (near_ones (paired n (entry e).item apart ∷ []) (get_or marks i Skip ∷ []))
+pub needs_next : {X : Type 0} (entry : X → Entry) (s : Space) (n : JoinNeed) (es : List X) (marks : List Mark) (i : ℕ) (e : X) (item : Item) (apart : Option ℕ) (old new whole : List JoinNeed) → i < length es → length marks ≡ length es → e ≡ get_or es i e
+    → item ≡ (entry e).item → (get_or marks i Skip ≡ Near → apart ≡ (with_entry s n (entry e)).apart) → new ≡ old ++ needs_among (near_ones (paired n item apart ∷ []) (get_or marks i Skip ∷ []))
     → old ++ needs_from entry s n (drop i es) (drop i marks) ≡ whole → new ++ needs_from entry s n (drop (i + 1) es) (drop (i + 1) marks) ≡ whole
-needs_next {X} entry s n es marks i e apart old new whole low long is same grown so_far =
+needs_next {X} entry s n es marks i e item apart old new whole low long is here_is same grown so_far =
     let here : List JoinNeed = needs_among (near_ones (paired n (entry e).item apart ∷ []) (get_or marks i Skip ∷ [])) in
     let rest : List JoinNeed = needs_from entry s n (drop (i + 1) es) (drop (i + 1) marks) in
-    ap (λ (l : List JoinNeed). l ++ rest) grown ∙ append_assoc old here rest
+    ap (λ (l : List JoinNeed). l ++ rest) (grown ∙ ap (λ (x : Item). old ++ needs_among (near_ones (paired n x apart ∷ []) (get_or marks i Skip ∷ []))) here_is) ∙ append_assoc old here rest
     ∙ ap (λ (l : List JoinNeed). old ++ l)
     (sym (need_first entry s n e (drop (i + 1) es) apart (get_or marks i Skip) (drop (i + 1) marks) same) ∙ sym (at_entry (needs_from entry s n) es marks i e low long is))
     ∙ so_far

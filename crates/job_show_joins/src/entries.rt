@@ -1,10 +1,11 @@
 // The line of an entry beside another item, and the test of its mark.
-ghost use Rattle.std.specs.Prelude.{◌≡◌, ◌++◌, ◌+◌, ◌<◌, ◌^◌, [], ◌∷◌, OnOk, IfOk};
+ghost use Rattle.std.specs.Prelude.{◌≡◌, ◌++◌, ◌+◌, ◌<◌, ◌^◌, true, false, [], ◌∷◌, OnOk, IfOk};
 ghost use Rattle.tree_shape.specs.Entries.{inner_of, leaf_of};
 ghost use Rattle.log_model.specs.declared.marks.Mark.TheVariants.{Skip, Near};
-ghost use Rattle.log_model.specs.Items.{IsItemOf};
+ghost use Rattle.log_model.specs.Counts.{entry_count};
+ghost use Rattle.log_model.specs.Items.{item_at};
 ghost use Rattle.log_model.specs.Walk.{near_ones};
-ghost use Rattle.log_model.specs.JoinWalk.{allows_entry, object_entry, subtree_entry, with_entry, within_apart};
+ghost use Rattle.log_model.specs.JoinWalk.{allows_entry, id_of, is_object, object_entry, subtree_entry, with_entry, within_apart};
 ghost use Rattle.log_model.specs.JoinSteps.{apart_from, needs_among, paired};
 ghost use Rattle.job_show.specs.Steps.{space_in};
 ghost use Rattle.job_show_joins.specs.Walks.{pair_entry_line};
@@ -78,8 +79,8 @@ fn is_within(apart: Option<u64>, rho: u64) -> bool
 }
 
 // Returns the distance of an entry's point from the other item, where that has a centre.
-fn apart_from(space: MixSpace, probe: JoinProbe, point: &[u32]) -> Option<u64>
-    ensures { result ≡ apart_from (space_in space) probe.entry.need.now point.now }
+fn apart_from(space: MixSpace, probe: &JoinProbe, point: &[u32]) -> Option<u64>
+    ensures { result ≡ apart_from (space_in space) probe.now.need.now point.now }
 {
     let mut ruler = Meter::new(space);
     probe.apart_from(&mut ruler, point)
@@ -100,14 +101,14 @@ fn test_object(gauge: PairGauge, entry: LeafRef, mark: Mark) -> PairTested
             apart: None,
         },
         Mark::Far => {
-            let apart = apart_from(gauge.search.space, probe, entry.point);
+            let apart = apart_from(gauge.search.space, &probe, entry.point);
             PairTested {
                 allowed: is_far(apart, probe.rho, 0, probe.reach),
                 apart,
             }
         }
         Mark::Near => {
-            let apart = apart_from(gauge.search.space, probe, entry.point);
+            let apart = apart_from(gauge.search.space, &probe, entry.point);
             PairTested {
                 allowed: !probe.other().is_object() || is_within(apart, probe.rho),
                 apart,
@@ -137,7 +138,7 @@ fn test_subtree(gauge: PairGauge, level: u8, entry: InnerRef, mark: Mark) -> Pai
             apart: None,
         },
         Mark::Far => {
-            let apart = apart_from(gauge.search.space, probe, entry.point);
+            let apart = apart_from(gauge.search.space, &probe, entry.point);
             PairTested {
                 allowed: is_far(apart, probe.rho, entry.radius, probe.reach),
                 apart,
@@ -145,7 +146,7 @@ fn test_subtree(gauge: PairGauge, level: u8, entry: InnerRef, mark: Mark) -> Pai
         }
         Mark::Near => PairTested {
             allowed: true,
-            apart: apart_from(gauge.search.space, probe, entry.point),
+            apart: apart_from(gauge.search.space, &probe, entry.point),
         },
     }
 }
@@ -209,41 +210,42 @@ pub fn show_subtree(
     Ok(tested)
 }
 
-// Adds the pair of object `index`, where it is marked Near, at the distance `apart`.
+// Adds the pair of object `index`, whose id is `id`, where it is marked Near, at the distance `apart`.
 pub fn name_object(
     gauge: PairGauge,
     index: usize,
-    entry: LeafRef,
+    id: u32,
     mark: Mark,
     apart: Option<u64>,
     named: &mut Matches,
 ) -> Result<(), AllocError>
-    requires { IsItemOf gauge.node.now index (object_entry (leaf_of entry)).item }
+    requires within { index < entry_count gauge.node.now }
+    requires object { is_object (item_at gauge.node.now index) ≡ true }
+    requires id { id_of (item_at gauge.node.now index) ≡ id }
     ensures { OnOk result (named.new.needs.items ≡ named.old.needs.items ++ needs_among
-        (near_ones (paired gauge.entry.coming.now.need (object_entry (leaf_of entry.entry)).item apart ∷ []) (mark ∷ []))) }
+        (near_ones (paired gauge.entry.coming.now.need (item_at gauge.entry.node.now index) apart ∷ []) (mark ∷ []))) }
 {
     match mark {
-        Mark::Near => named.add_object(gauge.probe(), index, entry, apart),
+        Mark::Near => named.add_object(&gauge.probe(), index, id, apart),
         Mark::Skip | Mark::Far => Ok(()),
     }
 }
 
-// Adds the pair of a subtree marked Near. Arguments: `level` is its inner node's, `index` and `entry` its own, `apart` its distance.
+// Adds the pair of subtree `index`, where it is marked Near, at the distance `apart`.
 pub fn name_subtree(
     gauge: PairGauge,
-    level: u8,
     index: usize,
-    entry: InnerRef,
     mark: Mark,
     apart: Option<u64>,
     named: &mut Matches,
 ) -> Result<(), AllocError>
-    requires { IsItemOf gauge.node.now index (subtree_entry level (inner_of entry)).item }
+    requires within { index < entry_count gauge.node.now }
+    requires subtree { is_object (item_at gauge.node.now index) ≡ false }
     ensures { OnOk result (named.new.needs.items ≡ named.old.needs.items ++ needs_among
-        (near_ones (paired gauge.entry.coming.now.need (subtree_entry level (inner_of entry.entry)).item apart ∷ []) (mark ∷ []))) }
+        (near_ones (paired gauge.entry.coming.now.need (item_at gauge.entry.node.now index) apart ∷ []) (mark ∷ []))) }
 {
     match mark {
-        Mark::Near => named.add_subtree(gauge.probe(), level, index, entry, apart),
+        Mark::Near => named.add_subtree(&gauge.probe(), index, apart),
         Mark::Skip | Mark::Far => Ok(()),
     }
 }

@@ -71,7 +71,7 @@ fn show_leaf(
     for i in 0..entries.len() {
         let entry = entries.at(i);
         let tested = show_object(gauge, i as u64, entry, marks[i], &mut walk.lines)?;
-        name_object(gauge, i, entry, marks[i], tested.apart, &mut walk.named)?;
+        name_object(gauge, i, entry.id, marks[i], tested.apart, &mut walk.named)?;
         allowed &= tested.allowed;
     }
     Ok(allowed)
@@ -107,15 +107,7 @@ fn show_inner(
     for i in 0..entries.len() {
         let entry = entries.at(i);
         let tested = show_subtree(gauge, level, i as u64, entry, marks[i], &mut walk.lines)?;
-        name_subtree(
-            gauge,
-            level,
-            i,
-            entry,
-            marks[i],
-            tested.apart,
-            &mut walk.named,
-        )?;
+        name_subtree(gauge, i, marks[i], tested.apart, &mut walk.named)?;
         allowed &= tested.allowed;
     }
     Ok(allowed)

@@ -1,7 +1,7 @@
 // The reason of a mark of a join, in words.
-ghost use Rattle.std.specs.Prelude.{◌≡◌, ◌++◌, OnOk, decimal};
+ghost use Rattle.std.specs.Prelude.{◌≡◌, ◌++◌, OnOk};
 ghost use Rattle.job_show.specs.Reasons.{plus_radius};
-ghost use Rattle.job_show_joins.specs.Reasons.{centre_text, item_radius, parent_text, reach_text, reason_text, test_text};
+ghost use Rattle.job_show_joins.specs.Reasons.{centre_text, item_radius, parent_text, reach_text, reason_text};
 
 use fault_lines::push_numbered;
 use job_show::{push_gap, push_sign, radius_or_zero};

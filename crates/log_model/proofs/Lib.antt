@@ -13,6 +13,7 @@ pub mod JoinLeast
 pub mod Sorting
 pub mod Examples
 pub mod Marked
+pub mod Places
 pub mod Reached
 pub mod Valid
 pub mod Published

@@ -16,6 +16,8 @@ pub use Rattle.log_model.proofs.Least.{object_allowed, zip-map, least_allowed, w
 pub use Rattle.log_model.proofs.ByScan.{AreIds, length-points, id_below, at_id}
 -- On a sound tree a query has exactly one least log.
 pub use Rattle.log_model.proofs.LeastLog.{root_names, sound_complete, least_sound}
+-- The entry at a place of a node, as an item.
+pub use Rattle.log_model.proofs.Places.{object_at, subtree_at}
 -- The pairs that an opened node leaves.
 pub use Rattle.log_model.proofs.JoinSteps.{paired_same, hits_append, needs_append}
 -- A sound join walk names the pairs within the radius.

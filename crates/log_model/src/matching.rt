@@ -1,18 +1,18 @@
 //! Tests the entries of an opened node against the other item, and collects the pairs that they make.
 
-ghost use Rattle.std.specs.Prelude.{◌≡◌, IfOk, OnOk};
+ghost use Rattle.std.specs.Prelude.{◌≡◌, ◌<◌, true, false, IfOk, OnOk};
 ghost use Rattle.std.specs.Option.{option_copied};
 ghost use Rattle.metric_laws.specs.Counts.{CountsUpTo};
-ghost use Rattle.tree_shape.specs.Entries.{inner_of, leaf_of};
-ghost use Rattle.log_model.specs.Items.{Item as TheItem, IsItemOf};
-ghost use Rattle.log_model.specs.JoinWalk.{centre_of, id_of, object_entry, opens_right, other, pair_of, radius_of, subtree_entry};
+ghost use Rattle.log_model.specs.Counts.{entry_count};
+ghost use Rattle.log_model.specs.Items.{Item as TheItem, item_at};
+ghost use Rattle.log_model.specs.JoinWalk.{centre_of, id_of, is_object, opens_right, other, pair_of, radius_of};
 ghost use Rattle.log_model.specs.JoinSteps.{apart_from, paired};
 
 use crate::{Item, JoinNeed};
 use metric_laws::Ruler;
 use scan_model::Pair;
 use std::alloc::{AllocError, Global};
-use tree_shape::{InnerRef, LeafRef, Node, Shared};
+use tree_shape::{Node, Shared};
 
 /// What the tests of an opened node's entries need.
 #[derive(Clone, Copy)]
@@ -135,22 +135,24 @@ pub struct Matches {
 impl Matches {
     ghost use Rattle.log_model.specs.Matches.{AddsPair};
 
-    /// Adds the pair of the opened leaf's object `index` with the other item, at the distance `apart`. Where the other item is an
-    /// object too, the pair is an answer, and no item is made for it. Otherwise the pair is needed.
+    /// Adds the pair of the opened leaf's object `index`, whose id is `id`, with the other item, at the distance `apart`. Where the
+    /// other item is an object too, the pair is an answer, and no item is made for it. Otherwise the pair is needed.
     // It stands apart from the loops over entries, as `add_subtree` does: few entries have a pair.
     #[inline(never)]
     pub fn add_object(
         &mut self,
-        probe: JoinProbe,
+        probe: &JoinProbe,
         index: usize,
-        entry: LeafRef,
+        id: u32,
         apart: Option<u64>,
     ) -> Result<(), AllocError>
-        requires { IsItemOf probe.node.now index (object_entry (leaf_of entry)).item }
-        ensures { OnOk result (AddsPair (paired probe.entry.need.now (object_entry (leaf_of entry.entry)).item apart) self.old self.new) }
+        requires within { index < entry_count probe.now.node.now }
+        requires object { is_object (item_at probe.now.node.now index) ≡ true }
+        requires id { id_of (item_at probe.now.node.now index) ≡ id }
+        ensures { OnOk result (AddsPair (paired probe.now.need.now (item_at probe.now.node.now index) apart) self.old self.new) }
     {
         if probe.other().is_object() {
-            self.hits.push(probe.answer(entry.id, apart))?;
+            self.hits.push(probe.answer(id, apart))?;
             return Ok(());
         }
         let item = Item::of_entry(probe.node, index)?;
@@ -158,20 +160,18 @@ impl Matches {
         Ok(())
     }
 
-    /// Adds the pair of the opened inner node's subtree `index` with the other item, at the distance `apart` of its centre. The node
-    /// has the level `level`. The pair is needed.
+    /// Adds the pair of the opened inner node's subtree `index` with the other item, at the distance `apart` of its centre. The pair
+    /// is needed.
     #[inline(never)]
     pub fn add_subtree(
         &mut self,
-        probe: JoinProbe,
-        level: u8,
+        probe: &JoinProbe,
         index: usize,
-        entry: InnerRef,
         apart: Option<u64>,
     ) -> Result<(), AllocError>
-        requires { IsItemOf probe.node.now index (subtree_entry level (inner_of entry)).item }
-        ensures { OnOk result (AddsPair
-            (paired probe.entry.need.now (subtree_entry level (inner_of entry.entry)).item apart) self.old self.new) }
+        requires within { index < entry_count probe.now.node.now }
+        requires subtree { is_object (item_at probe.now.node.now index) ≡ false }
+        ensures { OnOk result (AddsPair (paired probe.now.need.now (item_at probe.now.node.now index) apart) self.old self.new) }
     {
         let item = Item::of_entry(probe.node, index)?;
         self.needs.push(probe.with(item, apart)?)?;

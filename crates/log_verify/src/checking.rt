@@ -1,5 +1,5 @@
 // Checks the marks of one record against its node.
-ghost use Rattle.std.specs.Prelude.{◌≡◌, ◌++◌, ◌+◌, ◌≤◌, ◌<◌, ◌^◌, [], ◌∷◌, map, length, IfOk, IfNone, OnOk};
+ghost use Rattle.std.specs.Prelude.{◌≡◌, ◌++◌, ◌<◌, ◌^◌, [], ◌∷◌, map, length, IfOk, IfNone, OnOk};
 ghost use Rattle.log_model.specs.declared.marks.Mark.TheVariants.{Near};
 ghost use Rattle.metric_laws.specs.Counts.{count_up, CountsUpTo};
 ghost use Rattle.tree_shape.specs.Entries.{leaf_of, inner_of};

@@ -1,21 +1,21 @@
 // Checks the marks of one record of a join against its node.
-ghost use Rattle.std.specs.Prelude.{◌≡◌, ℕ, ◌++◌, ◌+◌, ◌<◌, ◌≤◌, ◌^◌, true, [], ◌∷◌, length, slice_index_or, OnOk, IfOk, IfNone};
+ghost use Rattle.std.specs.Prelude.{◌≡◌, ℕ, ◌++◌, ◌+◌, ◌<◌, ◌≤◌, ◌^◌, true, false, [], ◌∷◌, length, slice_index_or, OnOk, IfOk, IfNone};
 ghost use Rattle.log_model.specs.declared.marks.Mark.TheVariants.{Skip, Near};
 ghost use Rattle.tree_shape.specs.declared.entry.LeafEntry.{LeafEntry};
 ghost use Rattle.tree_shape.specs.declared.entry.InnerEntry.{InnerEntry};
 ghost use Rattle.metric_laws.specs.Counts.{CountsUpTo};
 ghost use Rattle.tree_shape.specs.Entries.{leaf_of, inner_of};
 ghost use Rattle.log_model.specs.Counts.{entry_count, measured_by};
-ghost use Rattle.log_model.specs.Items.{IsItemOf};
+ghost use Rattle.log_model.specs.Items.{item_at};
 ghost use Rattle.log_model.specs.Walk.{near_ones};
-ghost use Rattle.log_model.specs.JoinWalk.{allows_entry, far_stored, other, radius_of, object_entry, subtree_entry, join_hits, join_needs, within_apart};
+ghost use Rattle.log_model.specs.JoinWalk.{allows_entry, far_stored, id_of, is_object, other, radius_of, object_entry, subtree_entry, join_hits, join_needs, within_apart};
 ghost use Rattle.log_model.specs.JoinSteps.{apart_from, search_within, hits_among, needs_among, paired};
 ghost use Rattle.log_verify.specs.JoinJudged.{join_wrong_in};
 ghost use Rattle.log_verify.specs.JoinSteps.{object_pair, subtree_pair};
 
 use log_model::{JoinProbe, Mark, Matches, is_far, is_skipped};
 use metric_laws::Ruler;
-use std::alloc::{AllocError, Global};
+use std::alloc::AllocError;
 use tree_shape::{InnerEntries, InnerRef, InnerView, LeafEntries, LeafRef, LeafView, Node};
 
 // The result for an entry and its mark.
@@ -40,9 +40,9 @@ fn is_within(apart: Option<u64>, rho: u64) -> bool
 // Returns the distance of an entry's point from the other item, where that has a centre. It is separate from the loops over entries,
 // because most entries are skipped.
 #[inline(never)]
-fn apart_from<R: Ruler>(ruler: &mut R, probe: JoinProbe, point: &[u32]) -> Option<u64>
+fn apart_from<R: Ruler>(ruler: &mut R, probe: &JoinProbe, point: &[u32]) -> Option<u64>
     ensures metric { R.metric ruler.new ≡ R.metric ruler.old }
-    ensures value { result ≡ apart_from (R.M.space (R.metric ruler.old)) probe.entry.need.now point.now }
+    ensures value { result ≡ apart_from (R.M.space (R.metric ruler.old)) probe.now.need.now point.now }
     ensures counted { CountsUpTo (R.used ruler.old) (R.used ruler.new) 1 }
 {
     probe.apart_from(ruler, point)
@@ -50,15 +50,15 @@ fn apart_from<R: Ruler>(ruler: &mut R, probe: JoinProbe, point: &[u32]) -> Optio
 
 // Returns the first object from object `from` on that is not rightly marked Skip, or the number of objects. Most objects are rightly
 // marked Skip, so this loop does nothing else.
-fn pass_objects(probe: JoinProbe, objects: &LeafView, marks: &[Mark], from: usize) -> usize
+fn pass_objects(probe: &JoinProbe, objects: &LeafView, marks: &[Mark], from: usize) -> usize
     requires long { length marks.now ≡ length objects.now }
     requires within { from ≤ length objects.now }
     ensures low { from ≤ result }
     ensures high { result ≤ length objects.now }
     ensures marks { (k : ℕ) → from ≤ k → k < result → slice_index_or marks.now k Skip ≡ Skip }
     ensures skipped { (k : ℕ) (e : LeafEntry) → from ≤ k → k < result →
-        far_stored probe.entry.need.now.apart (slice_index_or objects.now k e).parent probe.entry.rho
-        (0 + radius_of (other probe.entry.need.now)) ≡ true }
+        far_stored probe.now.need.now.apart (slice_index_or objects.now k e).parent probe.now.rho
+        (0 + radius_of (other probe.now.need.now)) ≡ true }
 {
     let mut at = from;
     while at < objects.len() {
@@ -80,15 +80,15 @@ fn pass_objects(probe: JoinProbe, objects: &LeafView, marks: &[Mark], from: usiz
 }
 
 // Returns the first subtree from subtree `from` on that is not rightly marked Skip, or the number of subtrees.
-fn pass_subtrees(probe: JoinProbe, subtrees: &InnerView, marks: &[Mark], from: usize) -> usize
+fn pass_subtrees(probe: &JoinProbe, subtrees: &InnerView, marks: &[Mark], from: usize) -> usize
     requires long { length marks.now ≡ length subtrees.now }
     requires within { from ≤ length subtrees.now }
     ensures low { from ≤ result }
     ensures high { result ≤ length subtrees.now }
     ensures marks { (k : ℕ) → from ≤ k → k < result → slice_index_or marks.now k Skip ≡ Skip }
     ensures skipped { (k : ℕ) (e : InnerEntry) → from ≤ k → k < result →
-        far_stored probe.entry.need.now.apart (slice_index_or subtrees.now k e).parent probe.entry.rho
-        ((slice_index_or subtrees.now k e).radius + radius_of (other probe.entry.need.now)) ≡ true }
+        far_stored probe.now.need.now.apart (slice_index_or subtrees.now k e).parent probe.now.rho
+        ((slice_index_or subtrees.now k e).radius + radius_of (other probe.now.need.now)) ≡ true }
 {
     let mut at = from;
     while at < subtrees.len() {
@@ -113,15 +113,15 @@ fn pass_subtrees(probe: JoinProbe, subtrees: &InnerView, marks: &[Mark], from: u
 // Checks the mark of an object.
 fn check_object<R: Ruler>(
     ruler: &mut R,
-    probe: JoinProbe,
+    probe: &JoinProbe,
     entry: LeafRef,
     mark: Mark,
 ) -> JoinChecked
     ensures metric { R.metric ruler.new ≡ R.metric ruler.old }
-    ensures allowed { result.allowed ≡ allows_entry (search_within (R.M.space (R.metric ruler.old)) probe.entry.rho) probe.entry.need.now
+    ensures allowed { result.allowed ≡ allows_entry (search_within (R.M.space (R.metric ruler.old)) probe.now.rho) probe.now.need.now
         (object_entry (leaf_of entry.entry)) mark }
     ensures apart { mark ≡ Near →
-        result.apart ≡ (object_pair (R.M.space (R.metric ruler.old)) probe.entry.need.now (leaf_of entry.entry)).apart }
+        result.apart ≡ (object_pair (R.M.space (R.metric ruler.old)) probe.now.need.now (leaf_of entry.entry)).apart }
     ensures counted { CountsUpTo (R.used ruler.old) (R.used ruler.new) (measured_by (mark ∷ [])) }
 {
     match mark {
@@ -151,16 +151,16 @@ fn check_object<R: Ruler>(
 // Checks the mark of a subtree.
 fn check_subtree<R: Ruler>(
     ruler: &mut R,
-    probe: JoinProbe,
+    probe: &JoinProbe,
     level: u8,
     entry: InnerRef,
     mark: Mark,
 ) -> JoinChecked
     ensures metric { R.metric ruler.new ≡ R.metric ruler.old }
-    ensures allowed { result.allowed ≡ allows_entry (search_within (R.M.space (R.metric ruler.old)) probe.entry.rho) probe.entry.need.now
+    ensures allowed { result.allowed ≡ allows_entry (search_within (R.M.space (R.metric ruler.old)) probe.now.rho) probe.now.need.now
         (subtree_entry level (inner_of entry.entry)) mark }
     ensures apart { mark ≡ Near →
-        result.apart ≡ (subtree_pair (R.M.space (R.metric ruler.old)) probe.entry.need.now level (inner_of entry.entry)).apart }
+        result.apart ≡ (subtree_pair (R.M.space (R.metric ruler.old)) probe.now.need.now level (inner_of entry.entry)).apart }
     ensures counted { CountsUpTo (R.used ruler.old) (R.used ruler.new) (measured_by (mark ∷ [])) }
 {
     match mark {
@@ -190,45 +190,46 @@ fn check_subtree<R: Ruler>(
     }
 }
 
-// Adds the pair of object `index`, where it is marked Near.
+// Adds the pair of object `index`, whose id is `id`, where it is marked Near.
 fn name_object(
-    probe: JoinProbe,
+    probe: &JoinProbe,
     named: &mut Matches,
     index: usize,
-    entry: LeafRef,
+    id: u32,
     mark: Mark,
     apart: Option<u64>,
 ) -> Result<(), AllocError>
-    requires { IsItemOf probe.node.now index (object_entry (leaf_of entry)).item }
+    requires within { index < entry_count probe.now.node.now }
+    requires object { is_object (item_at probe.now.node.now index) ≡ true }
+    requires id { id_of (item_at probe.now.node.now index) ≡ id }
     ensures hits { OnOk result (named.new.hits.items ≡ named.old.hits.items ++ hits_among
-        (near_ones (paired probe.entry.need.now (object_entry (leaf_of entry.entry)).item apart ∷ []) (mark ∷ []))) }
+        (near_ones (paired probe.now.need.now (item_at probe.now.node.now index) apart ∷ []) (mark ∷ []))) }
     ensures needs { OnOk result (named.new.needs.items ≡ named.old.needs.items ++ needs_among
-        (near_ones (paired probe.entry.need.now (object_entry (leaf_of entry.entry)).item apart ∷ []) (mark ∷ []))) }
+        (near_ones (paired probe.now.need.now (item_at probe.now.node.now index) apart ∷ []) (mark ∷ []))) }
 {
     match mark {
-        Mark::Near => named.add_object(probe, index, entry, apart),
+        Mark::Near => named.add_object(probe, index, id, apart),
         Mark::Skip | Mark::Far => Ok(()),
     }
 }
 
-// Adds the pair of a subtree that is marked Near. Arguments: `level` is the inner node's, `index` and `entry` are the subtree's.
+// Adds the pair of subtree `index`, where it is marked Near.
 fn name_subtree(
-    probe: JoinProbe,
+    probe: &JoinProbe,
     named: &mut Matches,
-    level: u8,
     index: usize,
-    entry: InnerRef,
     mark: Mark,
     apart: Option<u64>,
 ) -> Result<(), AllocError>
-    requires { IsItemOf probe.node.now index (subtree_entry level (inner_of entry)).item }
+    requires within { index < entry_count probe.now.node.now }
+    requires subtree { is_object (item_at probe.now.node.now index) ≡ false }
     ensures hits { OnOk result (named.new.hits.items ≡ named.old.hits.items ++ hits_among
-        (near_ones (paired probe.entry.need.now (subtree_entry level (inner_of entry.entry)).item apart ∷ []) (mark ∷ []))) }
+        (near_ones (paired probe.now.need.now (item_at probe.now.node.now index) apart ∷ []) (mark ∷ []))) }
     ensures needs { OnOk result (named.new.needs.items ≡ named.old.needs.items ++ needs_among
-        (near_ones (paired probe.entry.need.now (subtree_entry level (inner_of entry.entry)).item apart ∷ []) (mark ∷ []))) }
+        (near_ones (paired probe.now.need.now (item_at probe.now.node.now index) apart ∷ []) (mark ∷ []))) }
 {
     match mark {
-        Mark::Near => named.add_subtree(probe, level, index, entry, apart),
+        Mark::Near => named.add_subtree(probe, index, apart),
         Mark::Skip | Mark::Far => Ok(()),
     }
 }
@@ -236,24 +237,24 @@ fn name_subtree(
 // Returns the first entry whose mark is not allowed. Where there is none, adds the pairs of the entries that are marked Near.
 fn check_leaf<R: Ruler>(
     ruler: &mut R,
-    probe: JoinProbe,
+    probe: &JoinProbe,
     entries: &LeafEntries,
     marks: &[Mark],
     named: &mut Matches,
 ) -> Result<Option<u32>, AllocError>
-    requires leaf { probe.node.now ≡ Node.Leaf entries.now }
+    requires leaf { probe.now.node.now ≡ Node.Leaf entries.now }
     requires long { length marks.now ≡ length entries.now }
     requires few { length entries.now < 2 ^ 32 }
     ensures metric { R.metric ruler.new ≡ R.metric ruler.old }
     ensures wrong { IfOk result (λ w.
-        w ≡ join_wrong_in (search_within (R.M.space (R.metric ruler.old)) probe.entry.rho) probe.entry.need.now
+        w ≡ join_wrong_in (search_within (R.M.space (R.metric ruler.old)) probe.now.rho) probe.now.need.now
         (Node.Leaf entries.now) marks.now) }
     ensures hits { IfOk result (λ w.
         IfNone w (named.new.hits.items ≡ named.old.hits.items ++ join_hits
-        (search_within (R.M.space (R.metric ruler.old)) probe.entry.rho) probe.entry.need.now (Node.Leaf entries.now) marks.now)) }
+        (search_within (R.M.space (R.metric ruler.old)) probe.now.rho) probe.now.need.now (Node.Leaf entries.now) marks.now)) }
     ensures needs { IfOk result (λ w.
         IfNone w (named.new.needs.items ≡ named.old.needs.items ++ join_needs
-        (search_within (R.M.space (R.metric ruler.old)) probe.entry.rho) probe.entry.need.now (Node.Leaf entries.now) marks.now)) }
+        (search_within (R.M.space (R.metric ruler.old)) probe.now.rho) probe.now.need.now (Node.Leaf entries.now) marks.now)) }
     ensures few_counted { CountsUpTo (R.used ruler.old) (R.used ruler.new) (measured_by marks.now) }
 {
     let objects = entries.seen();
@@ -264,7 +265,7 @@ fn check_leaf<R: Ruler>(
         if !checked.allowed {
             return Ok(Some(at as u32));
         }
-        name_object(probe, named, at, entry, marks[at], checked.apart)?;
+        name_object(probe, named, at, entry.id, marks[at], checked.apart)?;
         at = pass_objects(probe, &objects, marks, at + 1);
     }
     Ok(None)
@@ -273,26 +274,26 @@ fn check_leaf<R: Ruler>(
 // Returns the first entry whose mark is not allowed. Where there is none, adds the pairs of the entries that are marked Near.
 fn check_inner<R: Ruler>(
     ruler: &mut R,
-    probe: JoinProbe,
+    probe: &JoinProbe,
     level: u8,
     entries: &InnerEntries,
     marks: &[Mark],
     named: &mut Matches,
 ) -> Result<Option<u32>, AllocError>
-    requires inner { probe.node.now ≡ Node.Inner level entries.now }
+    requires inner { probe.now.node.now ≡ Node.Inner level entries.now }
     requires long { length marks.now ≡ length entries.now }
     requires few { length entries.now < 2 ^ 32 }
     ensures metric { R.metric ruler.new ≡ R.metric ruler.old }
     ensures wrong { IfOk result (λ w.
-        w ≡ join_wrong_in (search_within (R.M.space (R.metric ruler.old)) probe.entry.rho) probe.entry.need.now
+        w ≡ join_wrong_in (search_within (R.M.space (R.metric ruler.old)) probe.now.rho) probe.now.need.now
         (Node.Inner level entries.now) marks.now) }
     ensures hits { IfOk result (λ w.
         IfNone w (named.new.hits.items ≡ named.old.hits.items ++ join_hits
-        (search_within (R.M.space (R.metric ruler.old)) probe.entry.rho) probe.entry.need.now
+        (search_within (R.M.space (R.metric ruler.old)) probe.now.rho) probe.now.need.now
         (Node.Inner level entries.now) marks.now)) }
     ensures needs { IfOk result (λ w.
         IfNone w (named.new.needs.items ≡ named.old.needs.items ++ join_needs
-        (search_within (R.M.space (R.metric ruler.old)) probe.entry.rho) probe.entry.need.now
+        (search_within (R.M.space (R.metric ruler.old)) probe.now.rho) probe.now.need.now
         (Node.Inner level entries.now) marks.now)) }
     ensures few_counted { CountsUpTo (R.used ruler.old) (R.used ruler.new) (measured_by marks.now) }
 {
@@ -304,7 +305,7 @@ fn check_inner<R: Ruler>(
         if !checked.allowed {
             return Ok(Some(at as u32));
         }
-        name_subtree(probe, named, level, at, entry, marks[at], checked.apart)?;
+        name_subtree(probe, named, at, marks[at], checked.apart)?;
         at = pass_subtrees(probe, &subtrees, marks, at + 1);
     }
     Ok(None)
@@ -314,22 +315,22 @@ fn check_inner<R: Ruler>(
 // marks name.
 pub fn check_node<R: Ruler>(
     ruler: &mut R,
-    probe: JoinProbe,
+    probe: &JoinProbe,
     marks: &[Mark],
     named: &mut Matches,
 ) -> Result<Option<u32>, AllocError>
-    requires long { length marks.now ≡ entry_count probe.node.now }
-    requires few { entry_count probe.node.now < 2 ^ 32 }
+    requires long { length marks.now ≡ entry_count probe.now.node.now }
+    requires few { entry_count probe.now.node.now < 2 ^ 32 }
     ensures metric { R.metric ruler.new ≡ R.metric ruler.old }
     ensures wrong { IfOk result (λ w.
-        w ≡ join_wrong_in (search_within (R.M.space (R.metric ruler.old)) probe.entry.rho) probe.entry.need.now probe.entry.node.now
+        w ≡ join_wrong_in (search_within (R.M.space (R.metric ruler.old)) probe.now.rho) probe.now.need.now probe.now.node.now
         marks.now) }
     ensures hits { IfOk result (λ w.
         IfNone w (named.new.hits.items ≡ named.old.hits.items ++ join_hits
-        (search_within (R.M.space (R.metric ruler.old)) probe.entry.rho) probe.entry.need.now probe.entry.node.now marks.now)) }
+        (search_within (R.M.space (R.metric ruler.old)) probe.now.rho) probe.now.need.now probe.now.node.now marks.now)) }
     ensures needs { IfOk result (λ w.
         IfNone w (named.new.needs.items ≡ named.old.needs.items ++ join_needs
-        (search_within (R.M.space (R.metric ruler.old)) probe.entry.rho) probe.entry.need.now probe.entry.node.now marks.now)) }
+        (search_within (R.M.space (R.metric ruler.old)) probe.now.rho) probe.now.need.now probe.now.node.now marks.now)) }
     ensures few_counted { CountsUpTo (R.used ruler.old) (R.used ruler.new) (measured_by marks.now) }
 {
     match probe.node.as_ref() {

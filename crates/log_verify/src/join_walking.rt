@@ -1,5 +1,5 @@
 // Walks along the records of a join's log, one after the other.
-ghost use Rattle.std.specs.Prelude.{◌≡◌, ◌++◌, ◌+◌, ◌≤◌, ◌<◌, ◌^◌, ◌-◌, [], ◌∷◌, List, length, reverse, IsTrue, Ok, Err, IfOk, IfErr, OnOk};
+ghost use Rattle.std.specs.Prelude.{◌≡◌, ◌+◌, ◌≤◌, ◌<◌, ◌^◌, ◌-◌, [], ◌∷◌, List, length, reverse, IsTrue, Ok, Err, IfOk, IfErr, OnOk};
 ghost use Rattle.page_store.specs.Shelf.{HoldsSame};
 ghost use Rattle.metric_laws.specs.Counts.{next_count, CountsUpTo};
 ghost use Rattle.log_model.specs.declared.marks.JoinRecord.{JoinRecord};
@@ -172,7 +172,7 @@ fn take_record<P: Pages, Q: Pages, R: Ruler>(
     }
     let probe = JoinProbe::new(alloc, &need, &node, walk.rho);
     walk.named.needs.clear();
-    match check_node(ruler, probe, marks, &mut walk.named)? {
+    match check_node(ruler, &probe, marks, &mut walk.named)? {
         None => {
             put_on_top(&mut walk.stack, &mut walk.named.needs)?;
             walk.taken += 1;

@@ -1,13 +1,13 @@
 // The least marks of an opened node, and the pairs that they leave.
-ghost use Rattle.std.specs.Prelude.{◌≡◌, ℕ, ◌++◌, ◌+◌, ◌-◌, ◌≤◌, ◌<◌, [], ◌∷◌, true, false, map, length, replicate, slice_index_or, IfOk, OnOk};
+ghost use Rattle.std.specs.Prelude.{◌≡◌, ℕ, ◌++◌, ◌+◌, ◌-◌, ◌≤◌, ◌<◌, [], ◌∷◌, true, false, length, replicate, slice_index_or, IfOk, OnOk};
 ghost use Rattle.tree_shape.specs.declared.entry.LeafEntry.{LeafEntry};
 ghost use Rattle.tree_shape.specs.declared.entry.InnerEntry.{InnerEntry};
 ghost use Rattle.metric_laws.specs.Counts.{CountsUpTo};
 ghost use Rattle.tree_shape.specs.Entries.{inner_of, leaf_of};
-ghost use Rattle.log_model.specs.Counts.{measured_by};
-ghost use Rattle.log_model.specs.Items.{IsItemOf};
+ghost use Rattle.log_model.specs.Counts.{entry_count, measured_by};
+ghost use Rattle.log_model.specs.Items.{IsItemOf, item_at};
 ghost use Rattle.log_model.specs.declared.marks.Mark.TheVariants.{Skip, Near};
-ghost use Rattle.log_model.specs.JoinWalk.{object_entry, subtree_entry, entries_of, far_stored, join_skips, other, radius_of};
+ghost use Rattle.log_model.specs.JoinWalk.{object_entry, subtree_entry, entries_of, far_stored, is_object, join_skips, other, radius_of};
 ghost use Rattle.log_model.specs.JoinSteps.{search_within, apart_from, hits_among, needs_among};
 ghost use Rattle.metric_join.specs.Steps.{measured_at, marks_for, pairs_for, TakesEntries, CountsMarks};
 
@@ -35,12 +35,12 @@ struct Marked {
 }
 
 // Returns the least mark of an entry that is not skipped, by its distance.
-fn measured_mark<R: Ruler>(ruler: &mut R, probe: JoinProbe, point: &[u32], radius: u64) -> Marked
+fn measured_mark<R: Ruler>(ruler: &mut R, probe: &JoinProbe, point: &[u32], radius: u64) -> Marked
     ensures metric { R.metric ruler.new ≡ R.metric ruler.old }
     ensures counted { CountsUpTo (R.used ruler.old) (R.used ruler.new) 1 }
-    ensures mark { result.mark ≡ measured_at (search_within (R.M.space (R.metric ruler.old)) probe.entry.rho)
-        probe.entry.need.now point.now radius }
-    ensures apart { result.apart ≡ apart_from (R.M.space (R.metric ruler.old)) probe.entry.need.now point.now }
+    ensures mark { result.mark ≡ measured_at (search_within (R.M.space (R.metric ruler.old)) probe.now.rho)
+        probe.now.need.now point.now radius }
+    ensures apart { result.apart ≡ apart_from (R.M.space (R.metric ruler.old)) probe.now.need.now point.now }
 {
     let apart = probe.apart_from(ruler, point);
     let mark = if is_far(apart, probe.rho, radius, probe.reach) {
@@ -82,14 +82,14 @@ impl Opening {
 // Returns the first object from object `from` on that its stored distance does not rule out, or the number of objects. Stored distances
 // rule most objects out, so this loop writes nothing, and the work for the others stands apart.
 #[inline(always)]
-fn next_object(probe: JoinProbe, objects: &LeafView, from: usize) -> usize
+fn next_object(probe: &JoinProbe, objects: &LeafView, from: usize) -> usize
     requires { from ≤ length objects.now }
     ensures low { from ≤ result }
     ensures high { result ≤ length objects.now }
     ensures ruled_out { (k : ℕ) (e : LeafEntry) → from ≤ k → k < result →
-        join_skips probe.entry.rho probe.entry.need.now (object_entry (slice_index_or objects.now k e)) ≡ true }
+        join_skips probe.now.rho probe.now.need.now (object_entry (slice_index_or objects.now k e)) ≡ true }
     ensures next { (e : LeafEntry) → result < length objects.now →
-        join_skips probe.entry.rho probe.entry.need.now (object_entry (slice_index_or objects.now result e)) ≡ false }
+        join_skips probe.now.rho probe.now.need.now (object_entry (slice_index_or objects.now result e)) ≡ false }
 {
     let mut at = from;
     while at < objects.len() {
@@ -109,14 +109,16 @@ fn next_object(probe: JoinProbe, objects: &LeafView, from: usize) -> usize
 
 // Returns the first subtree from subtree `from` on that its stored distance does not rule out, or the number of subtrees.
 #[inline(always)]
-fn next_subtree(probe: JoinProbe, level: u8, subtrees: &InnerView, from: usize) -> usize
+fn next_subtree(probe: &JoinProbe, subtrees: &InnerView, from: usize) -> usize
     requires { from ≤ length subtrees.now }
     ensures low { from ≤ result }
     ensures high { result ≤ length subtrees.now }
     ensures ruled_out { (k : ℕ) (e : InnerEntry) → from ≤ k → k < result →
-        join_skips probe.entry.rho probe.entry.need.now (subtree_entry level (slice_index_or subtrees.now k e)) ≡ true }
+        far_stored probe.now.need.now.apart (slice_index_or subtrees.now k e).parent probe.now.rho
+        ((slice_index_or subtrees.now k e).radius + radius_of (other probe.now.need.now)) ≡ true }
     ensures next { (e : InnerEntry) → result < length subtrees.now →
-        join_skips probe.entry.rho probe.entry.need.now (subtree_entry level (slice_index_or subtrees.now result e)) ≡ false }
+        far_stored probe.now.need.now.apart (slice_index_or subtrees.now result e).parent probe.now.rho
+        ((slice_index_or subtrees.now result e).radius + radius_of (other probe.now.need.now)) ≡ false }
 {
     let mut at = from;
     while at < subtrees.len() {
@@ -139,16 +141,17 @@ fn next_subtree(probe: JoinProbe, level: u8, subtrees: &InnerView, from: usize) 
 #[inline(never)]
 fn measure_object<R: Ruler>(
     ruler: &mut R,
-    probe: JoinProbe,
+    probe: &JoinProbe,
     index: usize,
     entry: LeafRef,
     opening: &mut Opening,
 ) -> Result<(), AllocError>
-    requires item { IsItemOf probe.node.now index (object_entry (leaf_of entry)).item }
-    requires unskipped { far_stored probe.need.now.apart (leaf_of entry).parent probe.rho (radius_of (other probe.need.now)) ≡ false }
+    requires item { IsItemOf probe.now.node.now index (object_entry (leaf_of entry)).item }
+    requires unskipped { far_stored probe.now.need.now.apart (leaf_of entry).parent probe.now.rho
+        (radius_of (other probe.now.need.now)) ≡ false }
     ensures metric { R.metric ruler.new ≡ R.metric ruler.old }
     ensures counted { OnOk result (CountsMarks (R.used ruler.old) (R.used ruler.new) opening.old.marks.items opening.new.marks.items) }
-    ensures taken { OnOk result (TakesEntries (search_within (R.M.space (R.metric ruler.old)) probe.entry.rho) probe.entry.need.now
+    ensures taken { OnOk result (TakesEntries (search_within (R.M.space (R.metric ruler.old)) probe.now.rho) probe.now.need.now
         (object_entry (leaf_of entry.entry) ∷ []) opening.old opening.new) }
 {
     let marked = measured_mark(ruler, probe, entry.point, 0);
@@ -156,35 +159,34 @@ fn measure_object<R: Ruler>(
     if let Mark::Near = marked.mark {
         opening
             .matches
-            .add_object(probe, index, entry, marked.apart)?;
+            .add_object(probe, index, entry.id, marked.apart)?;
     }
     Ok(())
 }
 
-// Marks subtree `index` of an inner node of level `level`, which is not skipped, and adds its pair where it is marked Near.
+// Marks subtree `index`, which is not skipped, and adds its pair where it is marked Near.
 #[inline(never)]
 fn measure_subtree<R: Ruler>(
     ruler: &mut R,
-    probe: JoinProbe,
-    level: u8,
+    probe: &JoinProbe,
     index: usize,
     entry: InnerRef,
     opening: &mut Opening,
 ) -> Result<(), AllocError>
-    requires item { IsItemOf probe.node.now index (subtree_entry level (inner_of entry)).item }
-    requires unskipped { far_stored probe.need.now.apart (inner_of entry).parent probe.rho
-        ((inner_of entry).radius + radius_of (other probe.need.now)) ≡ false }
+    requires within { index < entry_count probe.now.node.now }
+    requires subtree { is_object (item_at probe.now.node.now index) ≡ false }
+    requires unskipped { far_stored probe.now.need.now.apart (inner_of entry).parent probe.now.rho
+        ((inner_of entry).radius + radius_of (other probe.now.need.now)) ≡ false }
     ensures metric { R.metric ruler.new ≡ R.metric ruler.old }
     ensures counted { OnOk result (CountsMarks (R.used ruler.old) (R.used ruler.new) opening.old.marks.items opening.new.marks.items) }
-    ensures taken { OnOk result (TakesEntries (search_within (R.M.space (R.metric ruler.old)) probe.entry.rho) probe.entry.need.now
+    ensures taken { (level : ℕ) → item_at probe.now.node.now index ≡ (subtree_entry level (inner_of entry.entry)).item →
+        OnOk result (TakesEntries (search_within (R.M.space (R.metric ruler.old)) probe.now.rho) probe.now.need.now
         (subtree_entry level (inner_of entry.entry) ∷ []) opening.old opening.new) }
 {
     let marked = measured_mark(ruler, probe, entry.point, entry.radius);
     opening.marks.push(marked.mark)?;
     if let Mark::Near = marked.mark {
-        opening
-            .matches
-            .add_subtree(probe, level, index, entry, marked.apart)?;
+        opening.matches.add_subtree(probe, index, marked.apart)?;
     }
     Ok(())
 }
@@ -192,16 +194,16 @@ fn measure_subtree<R: Ruler>(
 // Marks the entries of the opened leaf.
 fn mark_leaf<R: Ruler>(
     ruler: &mut R,
-    probe: JoinProbe,
+    probe: &JoinProbe,
     entries: &LeafEntries,
     opening: &mut Opening,
 ) -> Result<(), AllocError>
-    requires leaf { probe.node.now ≡ Node.Leaf entries.now }
+    requires leaf { probe.now.node.now ≡ Node.Leaf entries.now }
     requires none { opening.old.marks.items ≡ [] }
     ensures metric { R.metric ruler.new ≡ R.metric ruler.old }
     ensures counted { OnOk result (CountsMarks (R.used ruler.old) (R.used ruler.new) opening.old.marks.items opening.new.marks.items) }
-    ensures taken { OnOk result (TakesEntries (search_within (R.M.space (R.metric ruler.old)) probe.entry.rho) probe.entry.need.now
-        (map object_entry entries.now) opening.old opening.new) }
+    ensures taken { OnOk result (TakesEntries (search_within (R.M.space (R.metric ruler.old)) probe.now.rho) probe.now.need.now
+        (entries_of probe.now.node.now) opening.old opening.new) }
 {
     let objects = entries.seen();
     let mut at = 0;
@@ -217,30 +219,29 @@ fn mark_leaf<R: Ruler>(
     Ok(())
 }
 
-// Marks the entries of the opened inner node, whose level is `level`.
+// Marks the entries of the opened inner node.
 fn mark_inner<R: Ruler>(
     ruler: &mut R,
-    probe: JoinProbe,
-    level: u8,
+    probe: &JoinProbe,
     entries: &InnerEntries,
     opening: &mut Opening,
 ) -> Result<(), AllocError>
-    requires inner { probe.node.now ≡ Node.Inner level entries.now }
+    requires inner { (level : ℕ) × (probe.now.node.now ≡ Node.Inner level entries.now) }
     requires none { opening.old.marks.items ≡ [] }
     ensures metric { R.metric ruler.new ≡ R.metric ruler.old }
     ensures counted { OnOk result (CountsMarks (R.used ruler.old) (R.used ruler.new) opening.old.marks.items opening.new.marks.items) }
-    ensures taken { OnOk result (TakesEntries (search_within (R.M.space (R.metric ruler.old)) probe.entry.rho) probe.entry.need.now
-        (map (subtree_entry level) entries.now) opening.old opening.new) }
+    ensures taken { OnOk result (TakesEntries (search_within (R.M.space (R.metric ruler.old)) probe.now.rho) probe.now.need.now
+        (entries_of probe.now.node.now) opening.old opening.new) }
 {
     let subtrees = entries.seen();
     let mut at = 0;
     while at < subtrees.len() {
-        let next = next_subtree(probe, level, &subtrees, at);
+        let next = next_subtree(probe, &subtrees, at);
         opening.skip_up_to(next)?;
         if next == subtrees.len() {
             return Ok(());
         }
-        measure_subtree(ruler, probe, level, next, subtrees.at(next), opening)?;
+        measure_subtree(ruler, probe, next, subtrees.at(next), opening)?;
         at = next + 1;
     }
     Ok(())
@@ -250,31 +251,29 @@ fn mark_inner<R: Ruler>(
 /// memory of `needs`, which is empty.
 pub fn open_node<R: Ruler>(
     ruler: &mut R,
-    probe: JoinProbe,
+    probe: &JoinProbe,
     needs: Vec<JoinNeed>,
 ) -> Result<Opening, AllocError>
     requires { needs.items ≡ [] }
     ensures metric { R.metric ruler.new ≡ R.metric ruler.old }
     ensures counted { IfOk result (λ opening. CountsUpTo (R.used ruler.old) (R.used ruler.new) (measured_by opening.marks.items)) }
     ensures marks { IfOk result (λ opening.
-        opening.marks.items ≡ marks_for (search_within (R.M.space (R.metric ruler.old)) probe.entry.rho) probe.entry.need.now
-        (entries_of probe.entry.node.now)) }
+        opening.marks.items ≡ marks_for (search_within (R.M.space (R.metric ruler.old)) probe.now.rho) probe.now.need.now
+        (entries_of probe.now.node.now)) }
     ensures hits { IfOk result (λ opening.
         opening.matches.hits.items ≡ hits_among
-        (pairs_for (search_within (R.M.space (R.metric ruler.old)) probe.entry.rho) probe.entry.need.now
-        (entries_of probe.entry.node.now))) }
+        (pairs_for (search_within (R.M.space (R.metric ruler.old)) probe.now.rho) probe.now.need.now
+        (entries_of probe.now.node.now))) }
     ensures needs { IfOk result (λ opening.
         opening.matches.needs.items ≡ needs_among
-        (pairs_for (search_within (R.M.space (R.metric ruler.old)) probe.entry.rho) probe.entry.need.now
-        (entries_of probe.entry.node.now))) }
+        (pairs_for (search_within (R.M.space (R.metric ruler.old)) probe.now.rho) probe.now.need.now
+        (entries_of probe.now.node.now))) }
 {
     let node = probe.node.as_ref();
     let mut opening = Opening::new(probe.alloc, entry_count(node), needs)?;
     match node {
         Node::Leaf(entries) => mark_leaf(ruler, probe, entries, &mut opening)?,
-        Node::Inner { level, entries } => {
-            mark_inner(ruler, probe, *level, entries, &mut opening)?;
-        }
+        Node::Inner { entries, .. } => mark_inner(ruler, probe, entries, &mut opening)?,
     }
     Ok(opening)
 }

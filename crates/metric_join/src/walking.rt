@@ -233,7 +233,7 @@ fn open_pair<P: Pages, Q: Pages, R: Ruler>(
     let node = opened_node(alloc, left, right, &waiting)?;
     let probe = JoinProbe::new(alloc, &waiting.need, &node, walk.rho);
     let needs = mem::replace(&mut walk.spare, Spare::of(Vec::new(alloc))).into_list();
-    let opening = open_node(ruler, probe, needs)?;
+    let opening = open_node(ruler, &probe, needs)?;
     walk.take(&waiting, opening)?;
     Ok(())
 }

@@ -1,4 +1,5 @@
-use Rattle.std.proofs.Common.{◌≡◌, ◌-◌, ◌≤◌, map, drop, length}
+use Rattle.std.proofs.Common.{◌≡◌, ℕ, ◌-◌, map, drop, length}
+use Rattle.tree_shape.specs.declared.entry.Node.TheVariants.{Inner}
 use Rattle.log_model.specs.JoinWalk.{subtree_entry}
 use Rattle.log_model.specs.JoinSteps.{search_within}
 use Rattle.metric_join.specs.Steps.{TakesEntries, CountsMarks}
@@ -11,8 +12,8 @@ invariant-loop-at g l = record {
   metric : g.R.Ruler.metric l.ruler ≡ g.R.Ruler.metric l.fn.ruler;
   long : length l.opening.marks.items ≡ l.at;
   counted : CountsMarks (g.R.Ruler.used l.fn.ruler) (g.R.Ruler.used l.ruler) l.fn.opening.marks.items l.opening.marks.items;
-  taken : (last : Opening) → TakesEntries (search_within (g.R.M.Metric.space (g.R.Ruler.metric l.fn.ruler)) l.probe.rho) l.probe.need.now (map (subtree_entry l.level) (drop l.at l.entries)) l.opening last →
-      TakesEntries (search_within (g.R.M.Metric.space (g.R.Ruler.metric l.fn.ruler)) l.probe.rho) l.probe.need.now (map (subtree_entry l.level) l.entries) l.fn.opening last;
+  taken : (level : ℕ) → l.probe.node.now ≡ Inner level l.entries → (last : Opening) → TakesEntries (search_within (g.R.M.Metric.space (g.R.Ruler.metric l.fn.ruler)) l.probe.rho) l.probe.need.now (map (subtree_entry level) (drop l.at l.entries)) l.opening last →
+      TakesEntries (search_within (g.R.M.Metric.space (g.R.Ruler.metric l.fn.ruler)) l.probe.rho) l.probe.need.now (map (subtree_entry level) l.entries) l.fn.opening last;
 }
 
 abbrev pub decreases-loop-at : goal.decreases-loop-at

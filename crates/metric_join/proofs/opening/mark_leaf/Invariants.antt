@@ -1,4 +1,4 @@
-use Rattle.std.proofs.Common.{◌≡◌, ◌-◌, ◌≤◌, map, drop, length}
+use Rattle.std.proofs.Common.{◌≡◌, ◌-◌, map, drop, length}
 use Rattle.log_model.specs.JoinWalk.{object_entry}
 use Rattle.log_model.specs.JoinSteps.{search_within}
 use Rattle.metric_join.specs.Steps.{TakesEntries, CountsMarks}

@@ -1,6 +1,7 @@
-use Rattle.std.proofs.Common.{◌≡◌, ◌+◌, refl, false}
+use Rattle.std.proofs.Common.{◌≡◌, ◌+◌, refl, ap, false}
 use Rattle.tree_shape.specs.Entries.{inner_of}
 use Rattle.log_model.specs.declared.pairs.JoinNeed.{JoinNeed}
+use Rattle.log_model.specs.Items.{Item, item_at}
 use Rattle.log_model.specs.JoinWalk.{JoinSearch, far_stored, subtree_entry, other, radius_of}
 use Rattle.log_model.specs.JoinSteps.{search_within, paired}
 use Rattle.metric_join.proofs.Entries.{takes_none, takes_pair, counts_one, least_unskipped, measured_one}
@@ -8,36 +9,38 @@ use Rattle.metric_join.proofs.opening.measure_subtree.Goals as goal
 
 pub returns-in_ok-add_subtree-clause-counted : goal.returns-in_ok-add_subtree-clause-counted
 returns-in_ok-add_subtree-clause-counted g c =
-    let j : JoinSearch = search_within (g.R.M.Metric.space (g.R.Ruler.metric c.args.ruler.now)) c.args.probe.rho in
-    let n : JoinNeed = c.args.probe.need.now in
+    let j : JoinSearch = search_within (g.R.M.Metric.space (g.R.Ruler.metric c.args.ruler.now)) c.args.probe.now.rho in
+    let n : JoinNeed = c.args.probe.now.need.now in
     let marked = c.measured_mark-marked in
     let some = marked.ensures.counted in
     counts_one (g.R.Ruler.used c.args.ruler.now) (g.R.Ruler.used marked.new.ruler) some.0 c.args.opening.now.marks.items c.push.new.self.items marked.result.mark
     (rw (measured_one j n c.args.entry.point.now c.args.entry.radius marked.result.mark marked.ensures.mark) some.1) some.2 c.in_ok-push.ensures.items
 
 pub returns-in_ok-add_subtree-clause-taken : goal.returns-in_ok-add_subtree-clause-taken
-returns-in_ok-add_subtree-clause-taken g c =
-    let j : JoinSearch = search_within (g.R.M.Metric.space (g.R.Ruler.metric c.args.ruler.now)) c.args.probe.rho in
-    let n : JoinNeed = c.args.probe.need.now in
+returns-in_ok-add_subtree-clause-taken g c level item =
+    let j : JoinSearch = search_within (g.R.M.Metric.space (g.R.Ruler.metric c.args.ruler.now)) c.args.probe.now.rho in
+    let n : JoinNeed = c.args.probe.now.need.now in
     let marked = c.measured_mark-marked in
     let unskipped : far_stored n.apart c.args.entry.parent j.rho (c.args.entry.radius + radius_of (other n)) ≡ false = c.requires.unskipped in
-    takes_pair j n (subtree_entry c.args.level (inner_of c.args.entry)) c.args.entry.point.now refl marked.result.mark
+    takes_pair j n (subtree_entry level (inner_of c.args.entry)) c.args.entry.point.now refl marked.result.mark
     (least_unskipped j n c.args.entry.point.now c.args.entry.parent c.args.entry.radius marked.result.mark unskipped marked.ensures.mark)
     c.args.opening.now (record { marks = c.push.new.self; matches = c.add_subtree.new.self }) c.in_ok-push.ensures.items
-    c.in-Near.is (paired n (subtree_entry c.args.level (inner_of c.args.entry)).item marked.result.apart) marked.result.apart (marked.ensures.apart) refl
+    c.in-Near.is (paired n (item_at c.args.probe.now.node.now c.args.index) marked.result.apart) marked.result.apart (marked.ensures.apart)
+    (ap (λ (item : Item). paired n item marked.result.apart) item)
     c.in_ok-add_subtree.ensures.hits c.in_ok-add_subtree.ensures.needs
 
 pub returns-in_default : goal.returns-in_default
 returns-in_default g c =
-    let j : JoinSearch = search_within (g.R.M.Metric.space (g.R.Ruler.metric c.args.ruler.now)) c.args.probe.rho in
-    let n : JoinNeed = c.args.probe.need.now in
+    let j : JoinSearch = search_within (g.R.M.Metric.space (g.R.Ruler.metric c.args.ruler.now)) c.args.probe.now.rho in
+    let n : JoinNeed = c.args.probe.now.need.now in
     let marked = c.measured_mark-marked in
     let unskipped : far_stored n.apart c.args.entry.parent j.rho (c.args.entry.radius + radius_of (other n)) ≡ false = c.requires.unskipped in
     let some = marked.ensures.counted in
     record {
       metric = marked.ensures.metric;
       counted = counts_one (g.R.Ruler.used c.args.ruler.now) (g.R.Ruler.used marked.new.ruler) some.0 c.args.opening.now.marks.items c.push.new.self.items marked.result.mark (rw (measured_one j n c.args.entry.point.now c.args.entry.radius marked.result.mark marked.ensures.mark) some.1) some.2 c.in_ok-push.ensures.items;
-      taken = takes_none j n (subtree_entry c.args.level (inner_of c.args.entry)) c.args.entry.point.now refl marked.result.mark
+      taken = λ level item.
+          takes_none j n (subtree_entry level (inner_of c.args.entry)) c.args.entry.point.now refl marked.result.mark
           (least_unskipped j n c.args.entry.point.now c.args.entry.parent c.args.entry.radius marked.result.mark unskipped marked.ensures.mark)
           c.args.opening.now (record { marks = c.push.new.self; matches = c.args.opening.now.matches }) c.in_ok-push.ensures.items
           c.in_default.not-Near refl refl;

@@ -1,2 +1,0 @@
-use Rattle.std.proofs.Common.{arith}
-use Rattle.metric_join.proofs.opening.next_subtree.Goals as goal
