@@ -53,11 +53,15 @@ fn push_near(stack: &mut Vec<u32>, entries: &InnerEntries, marks: &[Mark]) -> Re
     Ok(())
 }
 
-// Returns whether some entry is marked Near.
+// Returns whether some entry is marked Near. The loop looks at all marks, so that LLVM makes it wide.
 fn has_near(marks: &[Mark]) -> bool
     ensures { result ≡ has_near marks.now }
 {
-    marks.contains(&Mark::Near)
+    let mut near = false;
+    for mark in marks {
+        near |= *mark == Mark::Near;
+    }
+    near
 }
 
 // Returns whether a walk passes over a record with these marks. It does where the log is known to mark each node that the walk

@@ -11,8 +11,8 @@ ghost use Rattle.metric_join.specs.Steps.{following, record_for, weight, weight_
 use crate::JoinFault;
 use crate::faults::fault_of;
 use crate::opening::{Opening, open_node};
-use log_model::{JoinNeed, JoinProbe, JoinRecord};
-use metric_laws::{BOUND, Listed, Ruler};
+use log_model::{JoinNeed, JoinProbe, JoinRecord, NodeMarks};
+use metric_laws::{BOUND, Ruler};
 use page_store::{PageFault, Pages, SharedNode};
 use scan_model::Pair;
 use std::alloc::{AllocError, Global};
@@ -96,7 +96,7 @@ impl JoinWalk {
     }
 
     // Takes in what the opening of a pair made: its record, its answers, and the pairs that it needs, which come next.
-    fn take(&mut self, waiting: &Waiting, opening: Opening) -> Result<(), AllocError>
+    fn take(&mut self, alloc: Global, waiting: &Waiting, opening: Opening) -> Result<(), AllocError>
         ensures rho { self.new.rho ≡ self.old.rho }
         ensures records { OnOk result (self.new.records.items ≡ self.old.records.items ++ record_for waiting.now opening.marks.items ∷ []) }
         ensures hits { OnOk result (self.new.hits.items ≡ self.old.hits.items ++ opening.matches.hits.items) }
@@ -106,7 +106,7 @@ impl JoinWalk {
         self.records.push(JoinRecord {
             right: waiting.need.opens_right(),
             page: waiting.need.opened().page(),
-            marks: Listed::new(opening.marks),
+            marks: NodeMarks::from_slice(alloc, opening.marks.as_slice())?,
         })?;
         let mut matches = opening.matches;
         self.hits.append(&mut matches.hits)?;
@@ -234,7 +234,7 @@ fn open_pair<P: Pages, Q: Pages, R: Ruler>(
     let probe = JoinProbe::new(alloc, &waiting.need, &node, walk.rho);
     let needs = mem::replace(&mut walk.spare, Spare::of(Vec::new(alloc))).into_list();
     let opening = open_node(ruler, &probe, needs)?;
-    walk.take(&waiting, opening)?;
+    walk.take(alloc, &waiting, opening)?;
     Ok(())
 }
 

@@ -1,7 +1,7 @@
 ghost use Rattle.log_model.specs.Grammar.{IsValidLog, IsValidJoinLog};
 
 use crate::models::holds;
-use log_model::{JoinLog, JoinRecord, Log, Mark, Record};
+use log_model::{JoinLog, JoinRecord, Log, Mark, NodeMarks, Record};
 use log_verify::{Accepted, JoinVerdict, Verdict, verify, verify_join};
 use metric_laws::{Listed, Meter, Point};
 use page_store::{ImagePages, PageFault};
@@ -43,7 +43,7 @@ fn log(rt: &(impl AllocGlobal + Abort), generation: u64, page: u32, mark: Mark, 
     ensures { IsValidLog result }
 {
     let alloc = rt.alloc();
-    let marks = Listed::new(vec![in alloc; mark].expect(rt, "memory"));
+    let marks = NodeMarks::from_slice(alloc, &[mark]).expect(rt, "memory");
     let q = Point::new(alloc, &[0, 0]).expect(rt, "memory");
     let answers = vec![in alloc; Hit { id: 0, dist }].expect(rt, "memory");
     let records = vec![in alloc; Record { page, marks }].expect(rt, "memory");
@@ -126,12 +126,12 @@ fn join_log(rt: &(impl AllocGlobal + Abort), right: (u64, u32), mark: Mark) -> J
     let first = JoinRecord {
         right: false,
         page: 4,
-        marks: Listed::new(vec![in alloc; Mark::Near].expect(rt, "memory")),
+        marks: NodeMarks::from_slice(alloc, &[Mark::Near]).expect(rt, "memory"),
     };
     let second = JoinRecord {
         right: true,
         page: 4,
-        marks: Listed::new(vec![in alloc; mark].expect(rt, "memory")),
+        marks: NodeMarks::from_slice(alloc, &[mark]).expect(rt, "memory"),
     };
     JoinLog {
         left: (2, 4),

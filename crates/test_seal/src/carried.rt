@@ -2,7 +2,7 @@ ghost use Rattle.std.specs.Prelude.{◌≡◌, ◌<◌, All};
 ghost use Rattle.log_model.specs.Grammar.{IsValidLog};
 
 use disk_model::{Disk, MemoryDisk};
-use log_model::{Log, Mark, Record};
+use log_model::{Log, Mark, NodeMarks, Record};
 use log_verify::Verdict;
 use metric_laws::{Listed, Point};
 use node_page::HeadFault;
@@ -70,7 +70,7 @@ pub(crate) fn small_log(rt: &(impl AllocGlobal + Abort)) -> Log
     ensures within { All (λ r. r.page < 5) result.records }
 {
     let alloc = rt.alloc();
-    let marks = Listed::new(vec![in alloc; Mark::Near].expect(rt, "memory"));
+    let marks = NodeMarks::from_slice(alloc, &[Mark::Near]).expect(rt, "memory");
     let q = Point::new(alloc, &[0, 0]).expect(rt, "memory");
     let answers = vec![in alloc; HIT].expect(rt, "memory");
     let records = vec![in alloc; Record { page: 4, marks }].expect(rt, "memory");

@@ -1,7 +1,7 @@
 use crate::given::{holds, leaves, torn_leaves};
 use disk_model::{Disk, FileDisk, MemoryDisk};
 use hit_tags::{marked_tags, tags_of};
-use log_model::{Found, Log, Mark, Record};
+use log_model::{Found, Log, Mark, NodeMarks, Record};
 use metric_laws::{Listed, Point};
 use node_page::NodeFault;
 use page_store::{DiskPages, ImagePages, PageFault, Pages};
@@ -45,7 +45,7 @@ fn records_of(rt: &(impl AllocGlobal + Abort), marked: &[Marked]) -> Vec<Record>
         let marks = marks_of(rt.alloc(), *count, *from, *to).expect(rt, "memory");
         let record = Record {
             page: *page,
-            marks: Listed::new(marks),
+            marks: NodeMarks::from_slice(rt.alloc(), marks.as_slice()).expect(rt, "memory"),
         };
         records.push(record).expect(rt, "memory");
     }
