@@ -8,7 +8,7 @@ ghost use Rattle.prune_log.specs.Reading.{Gives, number_at, next_at, many, alway
 
 use crate::fault::LogFault;
 use crate::fields::{byte_at, put_u32, put_u64, u32_at, u64_at};
-use log_model::{JoinRecord, Mark, Record};
+use log_model::{JoinRecord, Mark, NodeMarks, Record};
 use metric_laws::Listed;
 use scan_model::{Hit, Pair};
 use std::alloc::{AllocError, Global};
