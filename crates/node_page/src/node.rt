@@ -227,14 +227,13 @@ fn read_numbers(page: &[u8; 4096], numbers: &mut [u32])
         BigEndian::read_u32_into(&page[ENTRIES..ENTRIES + 4 * count], numbers);
         return;
     }
-    let last = count - READ_AT_ONCE;
     let mut from = 0;
-    while from < last {
+    while count - from > READ_AT_ONCE {
         read_some(page, numbers, from);
         from += READ_AT_ONCE;
     }
     // The last ones may share places with the ones before them.
-    read_some(page, numbers, last);
+    read_some(page, numbers, count - READ_AT_ONCE);
 }
 
 // Returns the first `count` numbers of four bytes of the entries, in the memory of `spare`, if there is some.

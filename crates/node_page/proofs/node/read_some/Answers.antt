@@ -1,4 +1,4 @@
-use Rattle.std.proofs.Common.{◌≡◌, ℕ, ◌+◌, ◌*◌, ◌-◌, length, take, drop, subst, arith}
+use Rattle.std.proofs.Common.{◌≡◌, ℕ, ◌+◌, ◌*◌, ◌-◌, take, drop, subst, arith}
 use Rattle.byteorder.specs.Endian.{IsRead, big_number}
 use Rattle.node_page.proofs.Entries.{some_read}
 use Rattle.node_page.proofs.node.read_some.Goals as goal
