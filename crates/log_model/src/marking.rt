@@ -83,7 +83,7 @@ fn next_subtree(above: Option<u64>, rho: u64, subtrees: &InnerView, from: usize)
     at
 }
 
-/// Returns the least marks of a leaf's entries, and appends the objects that are marked Near to the hits.
+// Returns the least marks of a leaf's entries, and appends the objects that are marked Near to the hits.
 pub(crate) fn mark_leaf<R: Ruler>(
     alloc: Global,
     ruler: &mut R,
@@ -120,7 +120,7 @@ pub(crate) fn mark_leaf<R: Ruler>(
     Ok(marks)
 }
 
-/// Returns the least marks of an inner node's entries, and appends the subtrees that are marked Near to the needs.
+// Returns the least marks of an inner node's entries, and appends the subtrees that are marked Near to the needs.
 pub(crate) fn mark_inner<R: Ruler>(
     alloc: Global,
     ruler: &mut R,

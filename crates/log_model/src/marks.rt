@@ -4,8 +4,8 @@ use crate::NodeMarks;
 // The default is what an unused place of `NodeMarks` holds.
 #[derive(Clone, Copy, Default, PartialEq, Eq)]
 pub enum Mark {
-    #[default]
     /// Ruled out by the parent test, from stored distances to the routing object above (VLDB 1997, section 3.2).
+    #[default]
     Skip,
     /// Ruled out by the centre test, from the computed distance to the entry.
     Far,
