@@ -17,7 +17,7 @@ mod traversal;
 pub use answering::{put_hits_in_order, put_pairs_in_order, radius_of, select};
 pub use items::Item;
 pub use logs::{Found, JoinLog, Joined, Log};
-pub use marking::{Probe, is_ruled_out};
+pub use marking::{Probe, is_ruled_out, next_object, next_subtree};
 pub use marks::{JoinRecord, Mark, Need, Record};
 pub use matching::{JoinProbe, Matches};
 pub use node_marks::NodeMarks;

@@ -33,10 +33,11 @@ pub fn is_ruled_out(above: Option<u64>, stored: u64, rho: u64, radius: u64) -> b
     }
 }
 
-// Returns the first object from object `from` on that the parent test does not rule out, or the number of objects. The test rules most
-// objects out, so this loop writes nothing. Without a distance above it rules out none.
+/// Returns the first object from object `from` on that the parent test does not rule out, or the number of objects. Without a distance
+/// above it rules out none.
+// The test rules most objects out, so this loop writes nothing.
 #[inline(always)]
-fn next_object(above: Option<u64>, rho: u64, objects: &LeafView, from: usize) -> usize
+pub fn next_object(above: Option<u64>, rho: u64, objects: &LeafView, from: usize) -> usize
     requires { from ≤ length objects.now }
     ensures low { from ≤ result }
     ensures high { result ≤ length objects.now }
@@ -58,9 +59,9 @@ fn next_object(above: Option<u64>, rho: u64, objects: &LeafView, from: usize) ->
     at
 }
 
-// Returns the first subtree from subtree `from` on that the parent test does not rule out, or the number of subtrees.
+/// Returns the first subtree from subtree `from` on that the parent test does not rule out, or the number of subtrees.
 #[inline(always)]
-fn next_subtree(above: Option<u64>, rho: u64, subtrees: &InnerView, from: usize) -> usize
+pub fn next_subtree(above: Option<u64>, rho: u64, subtrees: &InnerView, from: usize) -> usize
     requires { from ≤ length subtrees.now }
     ensures low { from ≤ result }
     ensures high { result ≤ length subtrees.now }
