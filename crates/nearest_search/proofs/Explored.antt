@@ -37,8 +37,8 @@ use Rattle.nearest_search.specs.declared.pending.Pending.{Pending}
 use Rattle.nearest_search.specs.Counts.{IsRadius}
 use Rattle.nearest_search.specs.Queue.{IsNext}
 use Rattle.nearest_search.specs.declared.seen.Sight.{Sight}
-use Rattle.nearest_search.specs.Seeing.{Seen, Objects, Subtrees, IsSeenOf, object_sight, subtree_sight, sights, mark_at, is_near, seen_near, hit_seen, need_seen, hits_seen, record_seen}
-use Rattle.nearest_search.specs.Keeping.{Sheets, IsKept, AreSeenOf, KeepsFew}
+use Rattle.nearest_search.specs.Seeing.{Seen, Objects, Subtrees, IsSeenOf, count_of, sights, mark_at, is_near, seen_near, hit_seen, need_seen, hits_seen, marks_seen, record_seen}
+use Rattle.nearest_search.specs.Keeping.{Sheets, IsKept, AreSeenOf, IsFew, KeepsFew}
 use Rattle.nearest_search.specs.Machine.{pending_root, pending_of, pendings_of, dists_of, entries_in, entries_of}
 use Rattle.nearest_search.specs.Opened.{State, Takes, IsOpened}
 use Rattle.nearest_search.specs.RebuiltLog.{TakesSeen, IsRebuilding, IsRebuiltLog, IsStopped}
@@ -46,7 +46,7 @@ use Rattle.nearest_search.specs.Searched.{marks_in, IsReachedBy, IsReached, IsEx
 use Rattle.nearest_search.proofs.Totals.{in-permutation, in-permutation_back, within_all}
 use Rattle.nearest_search.proofs.Steps.{step}
 use Rattle.nearest_search.proofs.Ends.{begins, room, ends}
-use Rattle.nearest_search.proofs.Seeing.{objects_marked, objects_named, subtrees_marked, subtrees_needed}
+use Rattle.nearest_search.proofs.Seeing.{length-marks, few_objects, few_subtrees, objects_marked, objects_named, subtrees_marked, subtrees_needed}
 use Rattle.nearest_search.proofs.Walking.{walk_opens, opens_before}
 use Rattle.page_store.proofs.Published.{holds_both, told_then}
 
@@ -54,19 +54,19 @@ entries_few : (dim : ℕ) (node : Node) → IsValidNode dim node → entry_count
 entries_few dim (Leaf es) valid = let few = valid.0 in omega arith
 entries_few dim (Inner level es) valid = let few = valid.3 in omega arith
 
--- as many entries were seen as the node has
-seen_all : (s : Space) (q : List ℕ) (rho : ℕ) (above : Option ℕ) (node : Node) (seen : Seen) → IsSeenOf s q rho above node seen → length (sights seen) ≡ entry_count node
-seen_all s q rho above (Leaf es) (Objects xs) is = ap length is.2 ∙ length-map es (object_sight (search_at s q is.0) above)
-seen_all s q rho above (Leaf es) (Subtrees xs) is = absurd is
-seen_all s q rho above (Inner level es) (Objects xs) is = absurd is
-seen_all s q rho above (Inner level es) (Subtrees xs) is = ap length is.2 ∙ length-map es (subtree_sight (search_at s q is.0) above)
+-- what is seen of a node is few
+few_seen : (s : Space) (q : List ℕ) (rho : ℕ) (above : Option ℕ) (node : Node) (seen : Seen) → entry_count node ≤ 32 → IsSeenOf s q rho above node seen → IsFew seen
+few_seen s q rho above (Leaf es) (Objects count xs) few is = rw (is.2, is.3) (few_objects (search_at s q is.0) above es few)
+few_seen s q rho above (Leaf es) (Subtrees count xs) few is = absurd is
+few_seen s q rho above (Inner level es) (Objects count xs) few is = absurd is
+few_seen s q rho above (Inner level es) (Subtrees count xs) few is = rw (is.2, is.3) (few_subtrees (search_at s q is.0) above es few)
 
 -- what was seen at a radius gives the marks at each lower one
 seen_lower : (s : Space) (q : List ℕ) (rho low : ℕ) → low ≤ rho → (above : Option ℕ) (node : Node) (seen : Seen) → IsSeenOf s q rho above node seen → IsSeenOf s q low above node seen
-seen_lower s q rho low le above (Leaf es) (Objects xs) is = (is.0, omega (arith, is.1), is.2)
-seen_lower s q rho low le above (Leaf es) (Subtrees xs) is = absurd is
-seen_lower s q rho low le above (Inner level es) (Objects xs) is = absurd is
-seen_lower s q rho low le above (Inner level es) (Subtrees xs) is = (is.0, omega (arith, is.1), is.2)
+seen_lower s q rho low le above (Leaf es) (Objects count xs) is = (is.0, omega (arith, is.1), is.2, is.3)
+seen_lower s q rho low le above (Leaf es) (Subtrees count xs) is = absurd is
+seen_lower s q rho low le above (Inner level es) (Objects count xs) is = absurd is
+seen_lower s q rho low le above (Inner level es) (Subtrees count xs) is = (is.0, omega (arith, is.1), is.2, is.3)
 
 -- the radius never rises
 radius_falls : (k : ℕ) (old new ds : List ℕ) (rho low : ℕ) → IsRadius k old rho → Takes k old new ds → IsRadius k new low → low ≤ rho
@@ -91,9 +91,9 @@ module _ (before after : Sheets) (page : ℕ) (above : Option ℕ) (seen : Seen)
       let there : after page above ≡ Some n = subst (λ (x : ℕ). after x above ≡ Some n) same (subst (λ (x : Option ℕ). after p x ≡ Some n) level is) in
       cc (there, here)
 
-  keeps_few_then : KeepsFew before → length (sights seen) ≤ 32 → KeepsFew after
+  keeps_few_then : KeepsFew before → IsFew seen → KeepsFew after
   keeps_few_then few new p a n is = elim (others p a) [
-    | inl same ↦ subst (λ (x : Seen). length (sights x) ≤ 32) (sym (one_seen p a n same.0 same.1 is)) new
+    | inl same ↦ subst IsFew (sym (one_seen p a n same.0 same.1 is)) new
     | inr same ↦ few p a n (sym same ∙ is)
   ]
 
@@ -168,7 +168,7 @@ module _ (s : Space) (axioms : IsSpace s) (old : Shelf) (live : Live) (q : List 
           reads = (let b = before.reads in omega arith);
           few = omega arith;
           keeps_few = keeps_few_then state.kept after.kept next.page next.above done.seen done.here done.others before.keeps_few
-              (let all = seen_all s q rho next.above done.node done.seen done.seen_is in let few = entries_few now.dim done.node done.is.valid in omega arith);
+              (few_seen s q rho next.above done.node done.seen (entries_few now.dim done.node done.is.valid) done.seen_is);
           begun = elim before.begun [
             | inl w ↦ inl (omega arith, kept_then state.kept after.kept next.page next.above done.seen done.here done.others live.root None w.1)
             | inr waits ↦
@@ -358,17 +358,17 @@ rebuilding_begins rho kept root rs hits stack none no_hits one = rw (none, no_hi
 
 -- what was seen of a node is taken in as the node would be
 takes_node : (s : Space) (q : List ℕ) (rho : ℕ) (n : Need) (node : Node) (seen : Seen) (old new : Traversal) → IsSeenOf s q rho n.above node seen → TakesSeen rho n seen old new → TakesNode (search_at s q rho) n node old new
-takes_node s q rho n (Leaf es) (Objects xs) old new is takes = record {
-  hits = takes.hits ∙ ap (λ (hs : List Hit). old.hits.items ++ hs) (ap (λ (l : List Sight). map hit_seen (seen_near rho l)) is.2 ∙ objects_named s q rho is.0 is.1 n.above es);
-  records = takes.records ∙ ap (λ (ms : List Mark). old.records.items ++ record { page = n.page; marks = ms } ∷ []) (ap (λ (l : List Sight). map (mark_at rho) l) is.2 ∙ objects_marked s q rho is.0 is.1 n.above es);
+takes_node s q rho n (Leaf es) (Objects count xs) old new is takes = record {
+  hits = takes.hits ∙ ap (λ (hs : List Hit). old.hits.items ++ hs) (ap (λ (l : List Sight). map hit_seen (seen_near rho l)) is.3 ∙ objects_named s q rho is.0 is.1 n.above es);
+  records = takes.records ∙ ap (λ (ms : List Mark). old.records.items ++ record { page = n.page; marks = ms } ∷ []) ((λ i. marks_seen rho (is.2 i) (is.3 i)) ∙ objects_marked s q rho is.0 is.1 n.above es);
   needs = takes.needs;
 }
-takes_node s q rho n (Leaf es) (Subtrees xs) old new is takes = absurd is
-takes_node s q rho n (Inner level es) (Objects xs) old new is takes = absurd is
-takes_node s q rho n (Inner level es) (Subtrees xs) old new is takes = record {
+takes_node s q rho n (Leaf es) (Subtrees count xs) old new is takes = absurd is
+takes_node s q rho n (Inner level es) (Objects count xs) old new is takes = absurd is
+takes_node s q rho n (Inner level es) (Subtrees count xs) old new is takes = record {
   hits = takes.hits;
-  records = takes.records ∙ ap (λ (ms : List Mark). old.records.items ++ record { page = n.page; marks = ms } ∷ []) (ap (λ (l : List Sight). map (mark_at rho) l) is.2 ∙ subtrees_marked s q rho is.0 is.1 n.above es);
-  needs = takes.needs ∙ ap (λ (ns : List Need). ns ++ reverse old.stack.items) (ap (λ (l : List Sight). map need_seen (seen_near rho l)) is.2 ∙ subtrees_needed s q rho is.0 is.1 n.above es);
+  records = takes.records ∙ ap (λ (ms : List Mark). old.records.items ++ record { page = n.page; marks = ms } ∷ []) ((λ i. marks_seen rho (is.2 i) (is.3 i)) ∙ subtrees_marked s q rho is.0 is.1 n.above es);
+  needs = takes.needs ∙ ap (λ (ns : List Need). ns ++ reverse old.stack.items) (ap (λ (l : List Sight). map need_seen (seen_near rho l)) is.3 ∙ subtrees_needed s q rho is.0 is.1 n.above es);
 }
 
 few_near : (rho : ℕ) (xs : List Sight) → length (seen_near rho xs) ≤ length xs
@@ -380,8 +380,8 @@ few_near rho (x ∷ xs) = cases (is_near (mark_at rho x)) (few_near rho xs)
     cases false ih = omega arith
 
 few_named : (rho : ℕ) (seen : Seen) → length (hits_seen rho seen) ≤ length (sights seen)
-few_named rho (Objects xs) = let few = few_near rho xs in let same = length-map (seen_near rho xs) hit_seen in omega arith
-few_named rho (Subtrees xs) = omega arith
+few_named rho (Objects count xs) = let few = few_near rho xs in let same = length-map (seen_near rho xs) hit_seen in omega arith
+few_named rho (Subtrees count xs) = omega arith
 
 pub rebuilding_steps : (rho : ℕ) (kept : Sheets) (root : ℕ) (one other : Traversal) (n : Need) (rest : List Need) (seen : Seen) → reverse one.stack.items ≡ n ∷ rest → KeepsFew kept → kept n.page n.above ≡ Some seen →
     (mid : Traversal) → mid.records.items ≡ one.records.items → mid.hits.items ≡ one.hits.items → reverse mid.stack.items ≡ rest → TakesSeen rho n seen mid other →
@@ -390,14 +390,14 @@ rebuilding_steps rho kept root one other n rest seen top few is mid records hits
     let rs : other.records.items ≡ one.records.items ++ record_seen rho n.page seen ∷ [] = takes.records ∙ ap (λ (l : List Record). l ++ record_seen rho n.page seen ∷ []) records in
     let hs : other.hits.items ≡ one.hits.items ++ hits_seen rho seen = takes.hits ∙ ap (λ (l : List Hit). l ++ hits_seen rho seen) hits in
     let entries = few n.page n.above seen is in
-    let many : length (map (mark_at rho) (sights seen)) ≡ length (sights seen) = length-map (sights seen) (mark_at rho) in
-    let named = few_named rho seen in
+    let few_marks : length (marks_seen rho (count_of seen) (sights seen)) ≤ 32 = omega (arith, entries.few, length-marks rho (count_of seen) (sights seen)) in
+    let named : length (hits_seen rho seen) ≤ 32 = omega (arith, few_named rho seen, entries.few, entries.no_more) in
     let long = length-append one.records.items (record_seen rho n.page seen ∷ []) in
     let more = length-append one.hits.items (hits_seen rho seen) in
     let b = before.few_hits in
     record {
       walk = λ s q nodes are. walks s q nodes (before.walk s q nodes are) (are n.page n.above seen is);
-      few_marks = rw rs (all_append (λ (r : Record). length r.marks ≤ 32) one.records.items (record_seen rho n.page seen ∷ []) before.few_marks ((omega arith), tt));
+      few_marks = rw rs (all_append (λ (r : Record). length r.marks ≤ 32) one.records.items (record_seen rho n.page seen ∷ []) before.few_marks (few_marks, tt));
       few_hits = rw (rs, hs) (omega arith);
     }
   where

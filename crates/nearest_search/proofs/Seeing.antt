@@ -1,22 +1,21 @@
--- What was seen of an entry gives its least mark at each radius up to that of the search.
-use Rattle.std.proofs.Common.{◌≡◌, ℕ, zero, suc, ◌+◌, ◌-◌, ◌<◌, ◌≤◌, Bool, true, false, List, [], ◌∷◌, ◌++◌, refl, sym, ap, ◌∙◌, arith, length, append_assoc, drop, drop-cons, add-one, get_or, set, Option, Some, None}
-use Rattle.std.specs.Prelude.{map, nat_lt, if◌then◌else◌}
+-- What was seen of the entries gives their least marks at each radius up to that of the search.
+use Rattle.std.proofs.Common.{◌≡◌, ℕ, zero, suc, ◌+◌, ◌-◌, ◌<◌, ◌≤◌, Bool, true, false, List, [], ◌∷◌, ◌++◌, refl, sym, ap, ◌∙◌, arith, subst, length, length-append, append_assoc, drop, drop-cons, add-one, get_or, Option, Some, None}
+use Rattle.std.specs.Prelude.{map, nat_lt, replicate, All, if◌then◌else◌}
 use Rattle.std.proofs.lemmas.Bool.Decides.{nat_tests}
+use Rattle.std.proofs.lemmas.List.{length-replicate, length-set}
+use Rattle.std.proofs.Math.Seq.{set-append_seam}
 use Rattle.metric_laws.specs.Space.{Space}
 use Rattle.metric_laws.specs.Pruning.{gap, centre_rules_out}
-use Rattle.scan_model.specs.declared.hit.Hit.{Hit}
 use Rattle.tree_shape.specs.declared.entry.LeafEntry.{LeafEntry}
 use Rattle.tree_shape.specs.declared.entry.InnerEntry.{InnerEntry}
 use Rattle.log_model.specs.declared.marks.Mark.{Mark}
 use Rattle.log_model.specs.declared.marks.Mark.TheVariants.{Skip, Far, Near}
-use Rattle.log_model.specs.declared.marks.Need.{Need}
-use Rattle.log_model.proofs.Published.{marked_to, marked_next, marked_skipped}
-use Rattle.log_model.specs.Walk.{search_at, parent_skips, least_for_object, least_for_subtree, leaf_marks, inner_marks, leaf_hits, inner_needs, near_ones, hit_of, need_of}
-use Rattle.nearest_search.specs.declared.pending.Pending.{Pending}
+use Rattle.log_model.specs.Walk.{Search, search_at, away, parent_skips, is_skipped, least_for_object, least_for_subtree, leaf_marks, inner_marks, leaf_hits, inner_needs, near_ones, hit_of, need_of}
 use Rattle.nearest_search.specs.declared.seen.Sight.{Sight}
 use Rattle.nearest_search.specs.Machine.{pending_of}
 use Rattle.nearest_search.specs.Opened.{leaf_dists, inner_pendings}
-use Rattle.nearest_search.specs.Seeing.{skip_of, sight_of, object_sight, subtree_sight, mark_at, is_near, seen_near, hit_seen, need_seen}
+use Rattle.nearest_search.specs.Seeing.{skip_of, object_sight, subtree_sight, sights_from, objects_seen, subtrees_seen, mark_at, is_near, put_mark, marked_by, marks_seen, seen_near, hit_seen, need_seen, Objects, Subtrees}
+use Rattle.nearest_search.specs.Keeping.{IsFew}
 
 less_less : (rho radius d : ℕ) → nat_lt rho (d - radius) ≡ nat_lt (rho + radius) d
 less_less rho radius d = cases (nat_lt (rho + radius) d) refl
@@ -25,27 +24,15 @@ less_less rho radius d = cases (nat_lt (rho + radius) d) refl
     cases true e = grind (arith, nat_tests)
     cases false e = grind (arith, nat_tests)
 
+less_far : (rho d : ℕ) → nat_lt rho d ≡ nat_lt (rho + 0) d
+less_far rho d = let same : rho + 0 ≡ rho = omega arith in rw same refl
+
 skips_same : (above : Option ℕ) (stored radius rho : ℕ) → nat_lt rho (skip_of above stored radius) ≡ parent_skips above stored rho radius
 skips_same None stored radius rho = grind (arith, nat_tests)
 skips_same (Some dist) stored radius rho = less_less rho radius (gap dist stored)
 
-near_mark : (m : Mark) → is_near m ≡ true → m ≡ Near
-near_mark Skip yes_near = absurd (cc)
-near_mark Far yes_near = absurd (cc)
-near_mark Near yes_near = refl
-
-far_ones : {X : Type 0} (e : X) (es : List X) (m : Mark) (ms : List Mark) → is_near m ≡ false → near_ones (e ∷ es) (m ∷ ms) ≡ near_ones es ms
-far_ones e es Skip ms far = refl
-far_ones e es Far ms far = refl
-far_ones e es Near ms far = absurd (cc)
-
--- what was seen so far, and what will be seen
-pub seen_next : {X Y : Type 0} (see : X → Y) (xs ys : List Y) (es : List X) (i : ℕ) (e : X) → i < length es → e ≡ get_or es i e → ys ≡ xs ++ see e ∷ [] →
-    ys ++ map see (drop (i + 1) es) ≡ xs ++ map see (drop i es)
-seen_next see xs ys es i e low is pushed = rw (pushed, add-one, drop-cons es i e low, ← is) (append_assoc xs (see e ∷ []) (map see (drop (suc i) es)))
-
 abbrev pub unseen : Sight
-unseen = record { name = 0; skip = 0; far = 0; dist = 0 }
+unseen = record { place = 0; name = 0; skip = 0; far = 0; dist = 0 }
 
 -- an entry of a list, whatever stands for one outside
 pub same_entry : (xs : List Sight) (i : ℕ) (d e : Sight) → i < length xs → get_or xs i d ≡ get_or xs i e
@@ -61,15 +48,8 @@ module _ (rho : ℕ) (xs : List Sight) (i : ℕ) (x : Sight) (low : i < length x
   pub far_next : is_near (mark_at rho x) ≡ false → seen_near rho (drop i xs) ≡ seen_near rho (drop (i + 1) xs)
   far_next far = rw (add-one, drop-cons xs i x low, ← is, far) refl
 
--- the marks of the sights before one, and what becomes of them at the next
-module _ (rho : ℕ) (xs : List Sight) (i : ℕ) (x : Sight) (low : i < length xs) (is : x ≡ get_or xs i x) (marks : List Mark) (so_far : marks ≡ marked_to (mark_at rho) i xs) where
-  pub mark_set : (m : Mark) → mark_at rho x ≡ m → set marks i m ≡ marked_to (mark_at rho) (i + 1) xs
-  mark_set m mark = rw (add-one, so_far) (marked_next (mark_at rho) i xs x m low is mark)
-
-  pub mark_left : mark_at rho x ≡ Skip → marks ≡ marked_to (mark_at rho) (i + 1) xs
-  mark_left mark = so_far ∙ marked_skipped (mark_at rho) i (i + 1) xs (omega arith) (λ k d from to.
-      let here : k ≡ i = omega arith in
-      ap (λ (j : ℕ). mark_at rho (get_or xs j d)) here ∙ ap (mark_at rho) (same_entry xs i d x low ∙ sym is) ∙ mark)
+  pub marks_next : (marks : List Mark) → marked_by rho marks (drop i xs) ≡ marked_by rho (put_mark marks x.place (mark_at rho x)) (drop (i + 1) xs)
+  marks_next marks = rw (add-one, drop-cons xs i x low, ← is) refl
 
 module _ (rho : ℕ) (xs : List Sight) (i : ℕ) (x : Sight) (some : 0 < i) (most : i ≤ length xs) (is : x ≡ get_or xs (i - 1) x) where
   back : i - 1 + 1 ≡ i
@@ -81,122 +61,236 @@ module _ (rho : ℕ) (xs : List Sight) (i : ℕ) (x : Sight) (some : 0 < i) (mos
   pub far_back : is_near (mark_at rho x) ≡ false → seen_near rho (drop (i - 1) xs) ≡ seen_near rho (drop i xs)
   far_back far = far_next rho xs (i - 1) x (omega arith) is far ∙ ap (λ (j : ℕ). seen_near rho (drop j xs)) back
 
-module _ (s : Space) (q : List ℕ) (rho r : ℕ) (low : rho ≤ r) where
-  -- the mark of one entry
-  pub marked : (above : Option ℕ) (name stored radius : ℕ) (p : List ℕ) →
-      mark_at rho (sight_of (search_at s q r) name radius (skip_of above stored radius) p)
-      ≡ (if parent_skips above stored rho radius then Skip else (if centre_rules_out (s.dist p q) rho radius then Far else Near))
-  marked above name stored radius p = cases (nat_lt r (skip_of above stored radius)) refl
+-- there are as many marks as before
+length-put : (marks : List Mark) (place : ℕ) (m : Mark) → length (put_mark marks place m) ≡ length marks
+length-put marks place Skip = refl
+length-put marks place Far = length-set marks place Far
+length-put marks place Near = length-set marks place Near
+
+length-marked : (rho : ℕ) (marks : List Mark) (xs : List Sight) → length (marked_by rho marks xs) ≡ length marks
+length-marked rho marks [] = refl
+length-marked rho marks (x ∷ xs) = length-marked rho (put_mark marks x.place (mark_at rho x)) xs ∙ length-put marks x.place (mark_at rho x)
+
+pub length-marks : (rho count : ℕ) (xs : List Sight) → length (marks_seen rho count xs) ≡ count
+length-marks rho count xs = length-marked rho (replicate count Skip) xs ∙ length-replicate count Skip
+
+-- the first of the marks Skip is set anew
+put_first : (ms rest : List Mark) (m : Mark) → put_mark (ms ++ Skip ∷ rest) (length ms) m ≡ ms ++ m ∷ rest
+put_first ms rest Skip = refl
+put_first ms rest Far = set-append_seam ms Skip rest Far
+put_first ms rest Near = set-append_seam ms Skip rest Near
+
+-- what does not depend on entries that are skipped; the first entry stands at a place
+passed : {X Z : Type 0} (skips : X → Bool) (of : ℕ → List X → Z) → ((place : ℕ) (e : X) (es : List X) → skips e ≡ true → of place (e ∷ es) ≡ of (suc place) es) →
+    (from to : ℕ) (es : List X) → from ≤ to → to ≤ length es → ((k : ℕ) (d : X) → from ≤ k → k < to → skips (get_or es k d) ≡ true) → of from (drop from es) ≡ of to (drop to es)
+passed skips of same zero zero es low high out = refl
+passed skips of same zero (suc to) [] low high out = absurd (omega arith)
+passed skips of same zero (suc to) (e ∷ es) low high out =
+    same 0 e es (out 0 e (omega arith) (omega arith))
+    ∙ passed skips (λ place l. of (suc place) l) (λ place d l skip. same (suc place) d l skip) zero to es (omega arith) (omega arith) (λ k d above below. out (suc k) d (omega arith) (omega arith))
+passed skips of same (suc from) zero es low high out = absurd (omega arith)
+passed skips of same (suc from) (suc to) [] low high out = absurd (omega arith)
+passed skips of same (suc from) (suc to) (e ∷ es) low high out =
+    passed skips (λ place l. of (suc place) l) (λ place d l skip. same (suc place) d l skip) from to es (omega arith) (omega arith) (λ k d above below. out (suc k) d (omega arith) (omega arith))
+
+-- entries, some of them skipped, and the sights of the others
+module _ {X : Type 0} (skips : X → Bool) (sight : ℕ → X → Sight) where
+  -- there is no sight of an entry that is skipped
+  unseen_skipped : (place : ℕ) (e : X) (es : List X) → skips e ≡ true → sights_from skips sight place (e ∷ es) ≡ sights_from skips sight (suc place) es
+  unseen_skipped place e es skip = rw skip refl
+
+  -- one that is not skipped is seen
+  seen_next : (xs ys : List Sight) (es : List X) (i : ℕ) (e : X) (x : Sight) → i < length es → e ≡ get_or es i e → skips e ≡ false → x ≡ sight i e → ys ≡ xs ++ x ∷ [] →
+      ys ++ sights_from skips sight (i + 1) (drop (i + 1) es) ≡ xs ++ sights_from skips sight i (drop i es)
+  seen_next xs ys es i e x low is left seen pushed =
+      rw (pushed, seen, add-one, drop-cons es i e low, ← is, left) (append_assoc xs (sight i e ∷ []) (sights_from skips sight (suc i) (drop (suc i) es)))
+
+  -- there are no more sights than entries
+  no_more : (place : ℕ) (es : List X) → length (sights_from skips sight place es) ≤ length es
+  no_more place [] = omega arith
+  no_more place (e ∷ es) = cases (skips e) (no_more (suc place) es)
     where
-      skipped : (skip : ℕ) → nat_lt r skip ≡ true → nat_lt rho skip ≡ true
-      skipped skip e = grind (arith, nat_tests)
+      cases : (b : Bool) → length (sights_from skips sight (suc place) es) ≤ length es →
+          length (if b then sights_from skips sight (suc place) es else sight place e ∷ sights_from skips sight (suc place) es) ≤ suc (length es)
+      cases true few = omega arith
+      cases false few = omega arith
 
-      cases : (b : Bool) → nat_lt r (skip_of above stored radius) ≡ b →
-          mark_at rho (if b then record { name = name; skip = skip_of above stored radius; far = 0; dist = 0 } else record { name = name; skip = skip_of above stored radius; far = s.dist p q - radius; dist = s.dist p q })
-          ≡ (if parent_skips above stored rho radius then Skip else (if centre_rules_out (s.dist p q) rho radius then Far else Near))
-      cases true e =
-          let t = skipped (skip_of above stored radius) e in
-          let u : parent_skips above stored rho radius ≡ true = sym (skips_same above stored radius rho) ∙ t in
-          rw (t, u) refl
-      cases false e = rw (skips_same above stored radius rho, less_less rho radius (s.dist p q)) refl
-
-  -- an entry that is marked Near was measured
-  pub measured_near : (name radius skip : ℕ) (p : List ℕ) → mark_at rho (sight_of (search_at s q r) name radius skip p) ≡ Near →
-      ◌≡◌ {A = Sight} (sight_of (search_at s q r) name radius skip p) (record { name = name; skip = skip; far = s.dist p q - radius; dist = s.dist p q })
-  measured_near name radius skip p = cases (nat_lt r skip) refl
-    where
-      skipped : nat_lt r skip ≡ true → nat_lt rho skip ≡ true
-      skipped e = grind (arith, nat_tests)
-
-      cases : (b : Bool) → nat_lt r skip ≡ b →
-          mark_at rho (if b then record { name = name; skip = skip; far = 0; dist = 0 } else record { name = name; skip = skip; far = s.dist p q - radius; dist = s.dist p q }) ≡ Near →
-          ◌≡◌ {A = Sight} (if b then record { name = name; skip = skip; far = 0; dist = 0 } else record { name = name; skip = skip; far = s.dist p q - radius; dist = s.dist p q })
-          (record { name = name; skip = skip; far = s.dist p q - radius; dist = s.dist p q })
-      cases true e near = absurd (let t : Skip ≡ Near = rw (skipped e) at near in cc)
-      cases false e near = refl
-
-  module _ (above : Option ℕ) where
-    -- an object
-    pub object_marked : (e : LeafEntry) → mark_at rho (object_sight (search_at s q r) above e) ≡ least_for_object (search_at s q rho) above e
-    object_marked e = marked above e.id e.parent 0 e.point
-
-    pub objects_marked : (es : List LeafEntry) → map (mark_at rho) (map (object_sight (search_at s q r) above) es) ≡ leaf_marks (search_at s q rho) above es
-    objects_marked [] = refl
-    objects_marked (e ∷ es) = rw (object_marked e, objects_marked es) refl
-
-    pub objects_named : (es : List LeafEntry) → map hit_seen (seen_near rho (map (object_sight (search_at s q r) above) es)) ≡ leaf_hits (search_at s q rho) above es
-    objects_named [] = refl
-    objects_named (e ∷ es) = one (mark_at rho (object_sight (search_at s q r) above e)) refl (object_marked e) (objects_named es)
+  module _ (there : (place : ℕ) (e : X) → (sight place e).place ≡ place) where
+    -- each is of one of the entries
+    placed : (place count : ℕ) (es : List X) → place + length es ≤ count → All (λ x. x.place < count) (sights_from skips sight place es)
+    placed place count [] few k d low = absurd (omega arith)
+    placed place count (e ∷ es) few k d low = cases (skips e) (placed (suc place) count es (omega arith)) k d low
       where
-        x : Sight
-        x = object_sight (search_at s q r) above e
+        cases : (b : Bool) → All (λ x. x.place < count) (sights_from skips sight (suc place) es) →
+            All (λ x. x.place < count) (if b then sights_from skips sight (suc place) es else sight place e ∷ sights_from skips sight (suc place) es)
+        cases true rest k d low = rest k d low
+        cases false rest zero d low = omega (arith, few, there place e)
+        cases false rest (suc k) d low = rest k d (omega arith)
 
-        one : (m : Mark) → mark_at rho (object_sight (search_at s q r) above e) ≡ m → mark_at rho (object_sight (search_at s q r) above e) ≡ least_for_object (search_at s q rho) above e →
-            map hit_seen (seen_near rho (map (object_sight (search_at s q r) above) es)) ≡ leaf_hits (search_at s q rho) above es →
-            map hit_seen (seen_near rho (object_sight (search_at s q r) above e ∷ map (object_sight (search_at s q r) above) es)) ≡ leaf_hits (search_at s q rho) above (e ∷ es)
-        one Skip i j ih = rw (← j, i) ih
-        one Far i j ih = rw (← j, i) ih
-        one Near i j ih = rw (← j, i, measured_near e.id 0 (skip_of above e.parent 0) e.point i) (ap (λ (hs : List Hit). hit_of (search_at s q rho) e ∷ hs) ih)
+    -- where a sight gives the least mark of its entry, and those that are skipped are marked Skip
+    module _ (rho : ℕ) (least : X → Mark) (out : (e : X) → skips e ≡ true → least e ≡ Skip) (mark : (place : ℕ) (e : X) → mark_at rho (sight place e) ≡ least e) where
+      -- the sights give the least marks
+      marked_rest : (ms : List Mark) (es : List X) → marked_by rho (ms ++ replicate (length es) Skip) (sights_from skips sight (length ms) es) ≡ ms ++ map least es
+      marked_rest ms [] = refl
+      marked_rest ms (e ∷ es) = cases (skips e) refl (λ m. marked_rest (ms ++ m ∷ []) es)
+        where
+          more : (m : Mark) → length (ms ++ m ∷ []) ≡ suc (length ms)
+          more m = length-append ms (m ∷ []) ∙ add-one (length ms)
 
-    -- a subtree
-    pub subtree_marked : (e : InnerEntry) → mark_at rho (subtree_sight (search_at s q r) above e) ≡ least_for_subtree (search_at s q rho) above e
-    subtree_marked e = marked above e.child e.parent e.radius e.point
+          IsMarked : Mark → Type 0
+          IsMarked m = marked_by rho ((ms ++ m ∷ []) ++ replicate (length es) Skip) (sights_from skips sight (length (ms ++ m ∷ [])) es) ≡ (ms ++ m ∷ []) ++ map least es
 
-    pub subtrees_marked : (es : List InnerEntry) → map (mark_at rho) (map (subtree_sight (search_at s q r) above) es) ≡ inner_marks (search_at s q rho) above es
-    subtrees_marked [] = refl
-    subtrees_marked (e ∷ es) = rw (subtree_marked e, subtrees_marked es) refl
+          moved : (m : Mark) → IsMarked m → m ≡ least e →
+              marked_by rho (ms ++ m ∷ replicate (length es) Skip) (sights_from skips sight (suc (length ms)) es) ≡ ms ++ least e ∷ map least es
+          moved m rest is =
+              ap (λ (l : List Mark). marked_by rho l (sights_from skips sight (suc (length ms)) es)) (sym (append_assoc ms (m ∷ []) (replicate (length es) Skip)))
+              ∙ ap (λ (n : ℕ). marked_by rho ((ms ++ m ∷ []) ++ replicate (length es) Skip) (sights_from skips sight n es)) (sym (more m))
+              ∙ rest ∙ append_assoc ms (m ∷ []) (map least es) ∙ ap (λ (n : Mark). ms ++ n ∷ map least es) is
 
-    pub subtrees_needed : (es : List InnerEntry) → map need_seen (seen_near rho (map (subtree_sight (search_at s q r) above) es)) ≡ inner_needs (search_at s q rho) above es
-    subtrees_needed [] = refl
-    subtrees_needed (e ∷ es) = one (mark_at rho (subtree_sight (search_at s q r) above e)) refl (subtree_marked e) (subtrees_needed es)
-      where
-        one : (m : Mark) → mark_at rho (subtree_sight (search_at s q r) above e) ≡ m → mark_at rho (subtree_sight (search_at s q r) above e) ≡ least_for_subtree (search_at s q rho) above e →
-            map need_seen (seen_near rho (map (subtree_sight (search_at s q r) above) es)) ≡ inner_needs (search_at s q rho) above es →
-            map need_seen (seen_near rho (subtree_sight (search_at s q r) above e ∷ map (subtree_sight (search_at s q r) above) es)) ≡ inner_needs (search_at s q rho) above (e ∷ es)
-        one Skip i j ih = rw (← j, i) ih
-        one Far i j ih = rw (← j, i) ih
-        one Near i j ih = rw (← j, i, measured_near e.child e.radius (skip_of above e.parent e.radius) e.point i) (ap (λ (ns : List Need). need_of (search_at s q rho) e ∷ ns) ih)
+          cases : (b : Bool) → skips e ≡ b → ((m : Mark) → IsMarked m) →
+              marked_by rho (ms ++ Skip ∷ replicate (length es) Skip) (if b then sights_from skips sight (suc (length ms)) es else sight (length ms) e ∷ sights_from skips sight (suc (length ms)) es)
+              ≡ ms ++ least e ∷ map least es
+          cases true skip rest = moved Skip (rest Skip) (sym (out e skip))
+          cases false skip rest =
+              ap (λ (l : List Mark). marked_by rho l (sights_from skips sight (suc (length ms)) es))
+              (ap (λ (n : ℕ). put_mark (ms ++ Skip ∷ replicate (length es) Skip) n (mark_at rho (sight (length ms) e))) (there (length ms) e)
+              ∙ put_first ms (replicate (length es) Skip) (mark_at rho (sight (length ms) e)))
+              ∙ moved (mark_at rho (sight (length ms) e)) (rest (mark_at rho (sight (length ms) e))) (mark (length ms) e)
 
--- at the search's own radius, entry by entry
-module _ (s : Space) (q : List ℕ) (r : ℕ) (above : Option ℕ) (i : ℕ) where
-  same_rho : r ≤ r
-  same_rho = omega arith
+      marked : (es : List X) → marks_seen rho (length es) (sights_from skips sight 0 es) ≡ map least es
+      marked es = marked_rest [] es
 
-  module _ (es : List LeafEntry) (e : LeafEntry) (low : i < length es) (is : e ≡ get_or es i e) where
-    pub object_near : is_near (mark_at r (object_sight (search_at s q r) above e)) ≡ true →
-        (leaf_dists (search_at s q r) above (drop i es) ≡ s.dist e.point q ∷ leaf_dists (search_at s q r) above (drop (i + 1) es)) × ((object_sight (search_at s q r) above e).dist ≡ s.dist e.point q)
-    object_near near =
-        let m = near_mark (mark_at r (object_sight (search_at s q r) above e)) near in
-        let least : least_for_object (search_at s q r) above e ≡ Near = sym (object_marked s q r r same_rho above e) ∙ m in
-        (rw (add-one, drop-cons es i e low, ← is, least) refl, ap (λ (x : Sight). x.dist) (measured_near s q r r same_rho e.id 0 (skip_of above e.parent 0) e.point m))
+      -- those that are marked Near
+      named : {Y : Type 0} (of : Sight → Y) (name : X → Y) → ((place : ℕ) (e : X) → of (sight place e) ≡ name e) → (place : ℕ) (es : List X) →
+          map of (seen_near rho (sights_from skips sight place es)) ≡ map name (near_ones es (map least es))
+      named of name same place [] = refl
+      named of name same place (e ∷ es) = cases (skips e) refl (named of name same (suc place) es)
+        where
+          one : (m : Mark) → mark_at rho (sight place e) ≡ m → map of (seen_near rho (sights_from skips sight (suc place) es)) ≡ map name (near_ones es (map least es)) →
+              map of (seen_near rho (sight place e ∷ sights_from skips sight (suc place) es)) ≡ map name (near_ones (e ∷ es) (least e ∷ map least es))
+          one Skip is rest = rw (← mark place e, is) rest
+          one Far is rest = rw (← mark place e, is) rest
+          one Near is rest = rw (← mark place e, is, same place e) (ap (λ (l : List _). name e ∷ l) rest)
 
-    pub object_far : is_near (mark_at r (object_sight (search_at s q r) above e)) ≡ false → leaf_dists (search_at s q r) above (drop i es) ≡ leaf_dists (search_at s q r) above (drop (i + 1) es)
-    object_far far =
-        let least : is_near (least_for_object (search_at s q r) above e) ≡ false = ap is_near (sym (object_marked s q r r same_rho above e)) ∙ far in
-        rw (add-one, drop-cons es i e low, ← is)
-        (ap (λ (xs : List LeafEntry). map (λ h. h.dist) (map (hit_of (search_at s q r)) xs)) (far_ones e (drop (suc i) es) (least_for_object (search_at s q r) above e) (leaf_marks (search_at s q r) above (drop (suc i) es)) least))
+          cases : (b : Bool) → skips e ≡ b → map of (seen_near rho (sights_from skips sight (suc place) es)) ≡ map name (near_ones es (map least es)) →
+              map of (seen_near rho (if b then sights_from skips sight (suc place) es else sight place e ∷ sights_from skips sight (suc place) es)) ≡ map name (near_ones (e ∷ es) (least e ∷ map least es))
+          cases true skip rest = rw (out e skip) rest
+          cases false skip rest = one (mark_at rho (sight place e)) refl rest
 
-  module _ (es : List InnerEntry) (e : InnerEntry) (low : i < length es) (is : e ≡ get_or es i e) where
-    pub subtree_near : is_near (mark_at r (subtree_sight (search_at s q r) above e)) ≡ true →
-        (inner_pendings (search_at s q r) above (drop i es) ≡ pending_of (search_at s q r) e ∷ inner_pendings (search_at s q r) above (drop (i + 1) es))
-        × (◌≡◌ {A = Pending} (record { low = (subtree_sight (search_at s q r) above e).far; page = e.child; above = Some (subtree_sight (search_at s q r) above e).dist }) (pending_of (search_at s q r) e))
-    subtree_near near =
-        let m = near_mark (mark_at r (subtree_sight (search_at s q r) above e)) near in
-        let least : least_for_subtree (search_at s q r) above e ≡ Near = sym (subtree_marked s q r r same_rho above e) ∙ m in (
-          rw (add-one, drop-cons es i e low, ← is, least) refl,
-          ap (λ (x : Sight). record { low = x.far; page = e.child; above = Some x.dist }) (measured_near s q r r same_rho e.child e.radius (skip_of above e.parent e.radius) e.point m),
-        )
+-- the entries that are marked Near, from one on that was measured
+module _ {X : Type 0} (least : X → Mark) (es : List X) (i : ℕ) (e : X) (low : i < length es) (is : e ≡ get_or es i e) where
+  split : drop i es ≡ e ∷ drop (i + 1) es
+  split = rw (add-one, drop-cons es i e low, ← is) refl
 
-    pub subtree_far : is_near (mark_at r (subtree_sight (search_at s q r) above e)) ≡ false →
-        inner_pendings (search_at s q r) above (drop i es) ≡ inner_pendings (search_at s q r) above (drop (i + 1) es)
-    subtree_far far =
-        let least : is_near (least_for_subtree (search_at s q r) above e) ≡ false = ap is_near (sym (subtree_marked s q r r same_rho above e)) ∙ far in
-        rw (add-one, drop-cons es i e low, ← is)
-        (ap (λ (xs : List InnerEntry). map (pending_of (search_at s q r)) xs) (far_ones e (drop (suc i) es) (least_for_subtree (search_at s q r) above e) (inner_marks (search_at s q r) above (drop (suc i) es)) least))
+  near_ones_near : least e ≡ Near → near_ones (drop i es) (map least (drop i es)) ≡ e ∷ near_ones (drop (i + 1) es) (map least (drop (i + 1) es))
+  near_ones_near near = ap (λ (l : List X). near_ones l (map least l)) split ∙ ap (λ (m : Mark). near_ones (e ∷ drop (i + 1) es) (m ∷ map least (drop (i + 1) es))) near
 
--- an entry that its parent distance rules out
-pub skipped_sight : (s : Space) (q p : List ℕ) (rho name radius skip : ℕ) → rho < skip →
-    (◌≡◌ {A = Sight} (record { name = name; skip = skip; far = 0; dist = 0 }) (sight_of (search_at s q rho) name radius skip p)) × (is_near (mark_at rho (sight_of (search_at s q rho) name radius skip p)) ≡ false)
-skipped_sight s q p rho name radius skip below =
-    let out : nat_lt rho skip ≡ true = grind (arith, nat_tests) in
-    (rw out refl, rw (out, out) refl)
+  near_ones_far : least e ≡ Far → near_ones (drop i es) (map least (drop i es)) ≡ near_ones (drop (i + 1) es) (map least (drop (i + 1) es))
+  near_ones_far far = ap (λ (l : List X). near_ones l (map least l)) split ∙ ap (λ (m : Mark). near_ones (e ∷ drop (i + 1) es) (m ∷ map least (drop (i + 1) es))) far
+
+-- what the parent test rules out at a radius, it rules out at each lower one
+module _ (rho r : ℕ) (low : rho ≤ r) where
+  lower : (above : Option ℕ) (stored radius : ℕ) → parent_skips above stored r radius ≡ true → parent_skips above stored rho radius ≡ true
+  lower None stored radius skip = skip
+  lower (Some dist) stored radius skip = grind (arith, nat_tests)
+
+module _ (s : Space) (q : List ℕ) (rho r : ℕ) (low : rho ≤ r) (above : Option ℕ) where
+  object_out : (e : LeafEntry) → is_skipped (search_at s q r) above e.parent 0 ≡ true → least_for_object (search_at s q rho) above e ≡ Skip
+  object_out e skip = rw (lower rho r low above e.parent 0 skip) refl
+
+  object_mark : (place : ℕ) (e : LeafEntry) → mark_at rho (object_sight (search_at s q r) above place e) ≡ least_for_object (search_at s q rho) above e
+  object_mark place e = rw (skips_same above e.parent 0 rho, less_far rho (s.dist e.point q)) refl
+
+  pub objects_marked : (es : List LeafEntry) → marks_seen rho (length es) (objects_seen (search_at s q r) above 0 es) ≡ leaf_marks (search_at s q rho) above es
+  objects_marked es = marked (λ e. is_skipped (search_at s q r) above e.parent 0) (object_sight (search_at s q r) above) (λ place e. refl) rho (least_for_object (search_at s q rho) above) object_out object_mark es
+
+  pub objects_named : (es : List LeafEntry) → map hit_seen (seen_near rho (objects_seen (search_at s q r) above 0 es)) ≡ leaf_hits (search_at s q rho) above es
+  objects_named es =
+      named (λ e. is_skipped (search_at s q r) above e.parent 0) (object_sight (search_at s q r) above) (λ place e. refl) rho (least_for_object (search_at s q rho) above) object_out object_mark
+      hit_seen (hit_of (search_at s q rho)) (λ place e. refl) 0 es
+
+  subtree_out : (e : InnerEntry) → is_skipped (search_at s q r) above e.parent e.radius ≡ true → least_for_subtree (search_at s q rho) above e ≡ Skip
+  subtree_out e skip = rw (lower rho r low above e.parent e.radius skip) refl
+
+  subtree_mark : (place : ℕ) (e : InnerEntry) → mark_at rho (subtree_sight (search_at s q r) above place e) ≡ least_for_subtree (search_at s q rho) above e
+  subtree_mark place e = rw (skips_same above e.parent e.radius rho, less_less rho e.radius (s.dist e.point q)) refl
+
+  pub subtrees_marked : (es : List InnerEntry) → marks_seen rho (length es) (subtrees_seen (search_at s q r) above 0 es) ≡ inner_marks (search_at s q rho) above es
+  subtrees_marked es =
+      marked (λ e. is_skipped (search_at s q r) above e.parent e.radius) (subtree_sight (search_at s q r) above) (λ place e. refl) rho (least_for_subtree (search_at s q rho) above) subtree_out subtree_mark es
+
+  pub subtrees_needed : (es : List InnerEntry) → map need_seen (seen_near rho (subtrees_seen (search_at s q r) above 0 es)) ≡ inner_needs (search_at s q rho) above es
+  subtrees_needed es =
+      named (λ e. is_skipped (search_at s q r) above e.parent e.radius) (subtree_sight (search_at s q r) above) (λ place e. refl) rho (least_for_subtree (search_at s q rho) above) subtree_out subtree_mark
+      need_seen (need_of (search_at s q rho)) (λ place e. refl) 0 es
+
+-- the loop over a node's entries: those that the parent test rules out are passed, and the next one is measured
+module _ (f : Search) (above : Option ℕ) (es : List LeafEntry) where
+  module _ (from to : ℕ) (low : from ≤ to) (high : to ≤ length es) (out : (k : ℕ) (e : LeafEntry) → from ≤ k → k < to → is_skipped f above (get_or es k e).parent 0 ≡ true) where
+    pub objects_passed : (seen all : List Sight) → seen ++ objects_seen f above from (drop from es) ≡ all → seen ++ objects_seen f above to (drop to es) ≡ all
+    objects_passed seen all so_far =
+        subst (λ (xs : List Sight). seen ++ xs ≡ all)
+        (passed (λ e. is_skipped f above e.parent 0) (objects_seen f above) (unseen_skipped (λ e. is_skipped f above e.parent 0) (object_sight f above)) from to es low high out) so_far
+
+    pub dists_passed : leaf_dists f above (drop from es) ≡ leaf_dists f above (drop to es)
+    dists_passed = passed (λ e. is_skipped f above e.parent 0) (λ place l. leaf_dists f above l) (λ place e l skip. rw skip refl) from to es low high out
+
+  module _ (i : ℕ) (e : LeafEntry) (low : i < length es) (is : e ≡ get_or es i e) (left : is_skipped f above e.parent 0 ≡ false) where
+    pub object_seen : (old new all : List Sight) (x : Sight) → x ≡ object_sight f above i e → new ≡ old ++ x ∷ [] → old ++ objects_seen f above i (drop i es) ≡ all →
+        new ++ objects_seen f above (i + 1) (drop (i + 1) es) ≡ all
+    object_seen old new all x seen pushed so_far = seen_next (λ d. is_skipped f above d.parent 0) (object_sight f above) old new es i e x low is left seen pushed ∙ so_far
+
+    module _ (dist : ℕ) (away_is : dist ≡ away f e.point) where
+      pub object_near : dist ≤ f.rho → leaf_dists f above (drop i es) ≡ dist ∷ leaf_dists f above (drop (i + 1) es)
+      object_near near =
+          let test : centre_rules_out (away f e.point) f.rho 0 ≡ false = grind (arith, nat_tests, near, away_is) in
+          ap (λ (xs : List LeafEntry). map (λ h. h.dist) (map (hit_of f) xs)) (near_ones_near (least_for_object f above) es i e low is (rw (left, test) refl))
+          ∙ ap (λ (d : ℕ). d ∷ leaf_dists f above (drop (i + 1) es)) (sym away_is)
+
+      pub object_far : f.rho < dist → leaf_dists f above (drop i es) ≡ leaf_dists f above (drop (i + 1) es)
+      object_far far =
+          let test : centre_rules_out (away f e.point) f.rho 0 ≡ true = grind (arith, nat_tests, far, away_is) in
+          ap (λ (xs : List LeafEntry). map (λ h. h.dist) (map (hit_of f) xs)) (near_ones_far (least_for_object f above) es i e low is (rw (left, test) refl))
+
+module _ (f : Search) (above : Option ℕ) (es : List InnerEntry) where
+  module _ (from to : ℕ) (low : from ≤ to) (high : to ≤ length es)
+      (out : (k : ℕ) (e : InnerEntry) → from ≤ k → k < to → is_skipped f above (get_or es k e).parent (get_or es k e).radius ≡ true) where
+    pub subtrees_passed : (seen all : List Sight) → seen ++ subtrees_seen f above from (drop from es) ≡ all → seen ++ subtrees_seen f above to (drop to es) ≡ all
+    subtrees_passed seen all so_far =
+        subst (λ (xs : List Sight). seen ++ xs ≡ all)
+        (passed (λ e. is_skipped f above e.parent e.radius) (subtrees_seen f above) (unseen_skipped (λ e. is_skipped f above e.parent e.radius) (subtree_sight f above)) from to es low high out) so_far
+
+    pub pendings_passed : inner_pendings f above (drop from es) ≡ inner_pendings f above (drop to es)
+    pendings_passed = passed (λ e. is_skipped f above e.parent e.radius) (λ place l. inner_pendings f above l) (λ place e l skip. rw skip refl) from to es low high out
+
+  module _ (i : ℕ) (e : InnerEntry) (low : i < length es) (is : e ≡ get_or es i e) (left : is_skipped f above e.parent e.radius ≡ false) where
+    pub subtree_seen : (old new all : List Sight) (x : Sight) → x ≡ subtree_sight f above i e → new ≡ old ++ x ∷ [] → old ++ subtrees_seen f above i (drop i es) ≡ all →
+        new ++ subtrees_seen f above (i + 1) (drop (i + 1) es) ≡ all
+    subtree_seen old new all x seen pushed so_far = seen_next (λ d. is_skipped f above d.parent d.radius) (subtree_sight f above) old new es i e x low is left seen pushed ∙ so_far
+
+    module _ (far : ℕ) (far_is : far ≡ away f e.point - e.radius) where
+      pub subtree_near : far ≤ f.rho → inner_pendings f above (drop i es) ≡ pending_of f e ∷ inner_pendings f above (drop (i + 1) es)
+      subtree_near near =
+          let test : centre_rules_out (away f e.point) f.rho e.radius ≡ false = grind (arith, nat_tests, near, far_is) in
+          ap (λ (xs : List InnerEntry). map (pending_of f) xs) (near_ones_near (least_for_subtree f above) es i e low is (rw (left, test) refl))
+
+      pub subtree_far : f.rho < far → inner_pendings f above (drop i es) ≡ inner_pendings f above (drop (i + 1) es)
+      subtree_far beyond =
+          let test : centre_rules_out (away f e.point) f.rho e.radius ≡ true = grind (arith, nat_tests, beyond, far_is) in
+          ap (λ (xs : List InnerEntry). map (pending_of f) xs) (near_ones_far (least_for_subtree f above) es i e low is (rw (left, test) refl))
+
+-- what was seen of a node is few
+module _ (f : Search) (above : Option ℕ) where
+  pub few_objects : (es : List LeafEntry) → length es ≤ 32 → IsFew (Objects (length es) (objects_seen f above 0 es))
+  few_objects es few = record {
+    few = few;
+    no_more = no_more (λ e. is_skipped f above e.parent 0) (object_sight f above) 0 es;
+    placed = placed (λ e. is_skipped f above e.parent 0) (object_sight f above) (λ place e. refl) 0 (length es) es (omega arith);
+  }
+
+  pub few_subtrees : (es : List InnerEntry) → length es ≤ 32 → IsFew (Subtrees (length es) (subtrees_seen f above 0 es))
+  few_subtrees es few = record {
+    few = few;
+    no_more = no_more (λ e. is_skipped f above e.parent e.radius) (subtree_sight f above) 0 es;
+    placed = placed (λ e. is_skipped f above e.parent e.radius) (subtree_sight f above) (λ place e. refl) 0 (length es) es (omega arith);
+  }

@@ -71,7 +71,7 @@ same_span old new span grows lies =
     let shorter : length (drop span.from xs) ≡ length xs - span.from = length-drop span.from xs in
     let same : slice_range (sights_in new span.block) span.from span.to ≡ slice_range xs span.from span.to =
     rw (more.1, drop-append-le span.from xs more.0 (omega (arith, lies.ordered, lies.within))) (take-append-le (span.to - span.from) (drop span.from xs) more.0 (omega (arith, lies.within, shorter))) in
-    (record { block = omega (arith, lies.block, grows.none_lost); ordered = lies.ordered; within = omega (arith, lies.within, long) }, ap (seen_of span.is_leaf) same)
+    (record { block = omega (arith, lies.block, grows.none_lost); ordered = lies.ordered; within = omega (arith, lies.within, long) }, ap (seen_of span.is_leaf span.count) same)
 
 -- more sights change nothing that is kept
 module _ (before after : Kept) (spans : after.spans ≡ before.spans) (grows : Grows (blocks_of before) (blocks_of after)) (fit : SpansFit before) where

@@ -1,5 +1,5 @@
 -- What a search keeps of each opening of a page.
-use Rattle.std.specs.Prelude.{◌≡◌, ℕ, ◌<◌, ◌≤◌, Bool, ◌&&◌, nat_eq, List, [], ◌∷◌, ◌++◌, length, slice_index_or, slice_range, Option, Some}
+use Rattle.std.specs.Prelude.{◌≡◌, ℕ, ◌<◌, ◌≤◌, Bool, ◌&&◌, nat_eq, List, [], ◌∷◌, ◌++◌, length, slice_index_or, slice_range, Option, Some, All}
 use Rattle.std.specs.Option.{option_eq, option_map}
 use Rattle.std.specs.Map.{lookup}
 use Rattle.metric_laws.specs.Space.{Space}
@@ -9,7 +9,7 @@ use Rattle.nearest_search.specs.declared.kept.Kept.{Kept}
 use Rattle.nearest_search.specs.declared.kept.Span.{Span}
 use Rattle.nearest_search.specs.declared.kept.Turn.{Turn}
 use Rattle.nearest_search.specs.declared.seen.Sight.{Sight}
-use Rattle.nearest_search.specs.Seeing.{Seen, IsSeenOf, seen_of, sights}
+use Rattle.nearest_search.specs.Seeing.{Seen, IsSeenOf, seen_of, count_of, sights}
 
 -- whether two openings are of one page, below routing points at one distance
 abbrev pub is_turn : Turn → Turn → Bool
@@ -35,7 +35,7 @@ pub record LiesWithin (blocks : List (List Sight)) (span : Span) : Type 0 where
 
 -- what the sights at a span say
 abbrev pub seen_at : List (List Sight) → Span → Seen
-seen_at blocks span = seen_of span.is_leaf (slice_range (sights_in blocks span.block) span.from span.to)
+seen_at blocks span = seen_of span.is_leaf span.count (slice_range (sights_in blocks span.block) span.from span.to)
 
 -- what is kept of a page that was opened below a routing point at a distance
 abbrev pub Sheets : Type 0
@@ -61,6 +61,12 @@ abbrev pub AreSeenOf : Space → List ℕ → ℕ → Nodes → Sheets → Type 
 AreSeenOf s q rho nodes kept =
     (page : ℕ) (above : Option ℕ) (seen : Seen) → kept page above ≡ Some seen → (node : Node) × (nodes page ≡ Some node) × IsSeenOf s q rho above node seen
 
--- at most 32 entries were seen of each page
+-- at most 32 entries were there, no more were seen, and each sight is of one of them
+pub record IsFew (seen : Seen) : Type 0 where
+  pub few : count_of seen ≤ 32
+  pub no_more : length (sights seen) ≤ count_of seen
+  pub placed : All (λ x. x.place < count_of seen) (sights seen)
+
+-- of each page at most 32 entries were seen
 abbrev pub KeepsFew : Sheets → Type 0
-KeepsFew kept = (page : ℕ) (above : Option ℕ) (seen : Seen) → kept page above ≡ Some seen → length (sights seen) ≤ 32
+KeepsFew kept = (page : ℕ) (above : Option ℕ) (seen : Seen) → kept page above ≡ Some seen → IsFew seen

@@ -1,5 +1,5 @@
 -- What opening a page does.
-use Rattle.std.specs.Prelude.{◌≡◌, ◌⊎◌, ℕ, ◌+◌, ◌≤◌, List, ◌++◌, map, drop, min, Option, Some, IsPermutation}
+use Rattle.std.specs.Prelude.{◌≡◌, ◌⊎◌, ℕ, ◌+◌, ◌≤◌, List, ◌++◌, map, min, Option, Some, IsPermutation}
 use Rattle.metric_laws.specs.Space.{Space}
 use Rattle.tree_shape.specs.declared.entry.LeafEntry.{LeafEntry}
 use Rattle.tree_shape.specs.declared.entry.InnerEntry.{InnerEntry}
@@ -11,7 +11,7 @@ use Rattle.nearest_search.specs.declared.kept.Span.{Span}
 use Rattle.nearest_search.specs.declared.pending.Pending.{Pending}
 use Rattle.nearest_search.specs.declared.seen.Sight.{Sight}
 use Rattle.nearest_search.specs.Counts.{within}
-use Rattle.nearest_search.specs.Seeing.{Seen, IsSeenOf, object_sight, subtree_sight}
+use Rattle.nearest_search.specs.Seeing.{Seen, IsSeenOf}
 use Rattle.nearest_search.specs.Keeping.{Grows, LiesWithin, Sheets, seen_at}
 use Rattle.nearest_search.specs.Machine.{dists_of, pendings_of, pending_of}
 
@@ -26,16 +26,6 @@ inner_pendings f above es = map (pending_of f) (near_ones es (inner_marks f abov
 -- the new list has the k least of the old distances and the new ones, as far as counts tell
 abbrev pub Takes : ℕ → List ℕ → List ℕ → List ℕ → Type 0
 Takes k old new ds = (r : ℕ) → min k (within r new) ≡ min k (within r old + within r ds)
-
--- objects from one place up to another were seen, and none of them is near
-pub record PassesObjects (f : Search) (above : Option ℕ) (es : List LeafEntry) (from next : ℕ) (old new : List Sight) : Type 0 where
-  pub seen : new ++ map (object_sight f above) (drop next es) ≡ old ++ map (object_sight f above) (drop from es)
-  pub none : leaf_dists f above (drop next es) ≡ leaf_dists f above (drop from es)
-
--- subtrees from one place up to another were seen, and none of them is near
-pub record PassesSubtrees (f : Search) (above : Option ℕ) (es : List InnerEntry) (from next : ℕ) (old new : List Sight) : Type 0 where
-  pub seen : new ++ map (subtree_sight f above) (drop next es) ≡ old ++ map (subtree_sight f above) (drop from es)
-  pub none : inner_pendings f above (drop next es) ≡ inner_pendings f above (drop from es)
 
 -- what was seen of the node's entries was appended to the blocks, and stands at the span
 pub record Sees (s : Space) (q : List ℕ) (rho : ℕ) (above : Option ℕ) (node : Node) (old new : List (List Sight)) (span : Span) : Type 0 where

@@ -25,6 +25,8 @@ pub struct Span {
     pub block: usize,
     pub from: usize,
     pub to: usize,
+    /// The number of the node's entries.
+    pub count: usize,
     /// Whether they are of a leaf's objects. If not, they are of an inner node's subtrees.
     pub is_leaf: bool,
 }
@@ -93,10 +95,11 @@ impl Kept {
             return None;
         };
         let sights = &self.block(span.block)[span.from..span.to];
+        let count = span.count;
         if span.is_leaf {
-            return Some(Sheet::Objects(sights));
+            return Some(Sheet::Objects { count, sights });
         }
-        Some(Sheet::Subtrees(sights))
+        Some(Sheet::Subtrees { count, sights })
     }
 
     /// Keeps where the sights of the opening `turn` stand.

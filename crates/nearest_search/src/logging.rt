@@ -1,8 +1,8 @@
 //! Writes the log of a search.
 
-ghost use Rattle.std.specs.Prelude.{◌≡◌, ◌++◌, [], ◌∷◌, map, reverse, IfOk, OnOk};
-ghost use Rattle.nearest_search.specs.Seeing.{mark_at, seen_near, seen_on, hit_seen, need_seen};
-ghost use Rattle.nearest_search.specs.Keeping.{kept_seen, KeepsFew, SpansFit};
+ghost use Rattle.std.specs.Prelude.{◌≡◌, ◌++◌, ◌<◌, [], ◌∷◌, All, map, reverse, IfOk, OnOk};
+ghost use Rattle.nearest_search.specs.Seeing.{marks_seen, seen_near, seen_on, hit_seen, need_seen};
+ghost use Rattle.nearest_search.specs.Keeping.{kept_seen, IsFew, KeepsFew, SpansFit};
 ghost use Rattle.nearest_search.specs.RebuiltLog.{TakesSeen, IsRebuiltLog};
 
 use crate::kept::{Kept, Turn};
@@ -12,24 +12,26 @@ use scan_model::Hit;
 use std::alloc::{AllocError, Global};
 use tree_shape::Live;
 
-// Returns the least marks of the objects of `seen` at the radius `rho`, and appends those that are marked Near to `hits`.
+// Returns the least marks of a leaf of `count` objects at the radius `rho`, and appends the objects that are marked Near to `hits`.
 fn mark_objects(
     alloc: Global,
     hits: &mut Vec<Hit>,
     rho: u64,
-    seen: &[Sight],
+    count: usize,
+    sights: &[Sight],
 ) -> Result<NodeMarks, AllocError>
-    ensures hits { OnOk result (hits.new.items ≡ hits.old.items ++ map hit_seen (seen_near rho seen.now)) }
-    ensures marks { IfOk result (λ marks. marks ≡ map (mark_at rho) seen.now) }
+    requires { All (λ x. x.place < count) sights.now }
+    ensures hits { OnOk result (hits.new.items ≡ hits.old.items ++ map hit_seen (seen_near rho sights.now)) }
+    ensures marks { IfOk result (λ marks. marks ≡ marks_seen rho count sights.now) }
 {
-    let mut marks = NodeMarks::all_skipped(alloc, seen.len())?;
-    for index in 0..seen.len() {
-        let sight = seen[index];
+    let mut marks = NodeMarks::all_skipped(alloc, count)?;
+    for index in 0..sights.len() {
+        let sight = sights[index];
         match sight.mark(rho) {
             Mark::Skip => {}
-            Mark::Far => marks.set(index, Mark::Far),
+            Mark::Far => marks.set(sight.place as usize, Mark::Far),
             Mark::Near => {
-                marks.set(index, Mark::Near);
+                marks.set(sight.place as usize, Mark::Near);
                 hits.push(Hit {
                     id: sight.name,
                     dist: sight.dist,
@@ -40,12 +42,12 @@ fn mark_objects(
     Ok(marks)
 }
 
-// Pushes the subtrees of `seen` that are marked Near at the radius `rho` on the stack, so that the first of them is on top.
-fn push_needs(stack: &mut Vec<Need>, rho: u64, seen: &[Sight]) -> Result<(), AllocError>
-    ensures { OnOk result (reverse stack.new.items ≡ map need_seen (seen_near rho seen.now) ++ reverse stack.old.items) }
+// Pushes the subtrees of `sights` that are marked Near at the radius `rho` on the stack, so that the first of them is on top.
+fn push_needs(stack: &mut Vec<Need>, rho: u64, sights: &[Sight]) -> Result<(), AllocError>
+    ensures { OnOk result (reverse stack.new.items ≡ map need_seen (seen_near rho sights.now) ++ reverse stack.old.items) }
 {
-    for i in (0..seen.len()).rev() {
-        let sight = seen[i];
+    for i in (0..sights.len()).rev() {
+        let sight = sights[i];
         if !sight.is_near(rho) {
             continue;
         }
@@ -57,13 +59,24 @@ fn push_needs(stack: &mut Vec<Need>, rho: u64, seen: &[Sight]) -> Result<(), All
     Ok(())
 }
 
-// Returns the least marks of `seen` at the radius `rho`.
-fn marks_at(alloc: Global, rho: u64, seen: &[Sight]) -> Result<NodeMarks, AllocError>
-    ensures { IfOk result (λ marks. marks ≡ map (mark_at rho) seen.now) }
+// Returns the least marks of a node of `count` entries at the radius `rho`.
+fn marks_at(
+    alloc: Global,
+    rho: u64,
+    count: usize,
+    sights: &[Sight],
+) -> Result<NodeMarks, AllocError>
+    requires { All (λ x. x.place < count) sights.now }
+    ensures { IfOk result (λ marks. marks ≡ marks_seen rho count sights.now) }
 {
-    let mut marks = NodeMarks::all_skipped(alloc, seen.len())?;
-    for index in 0..seen.len() {
-        marks.set(index, seen[index].mark(rho));
+    let mut marks = NodeMarks::all_skipped(alloc, count)?;
+    for index in 0..sights.len() {
+        let sight = sights[index];
+        match sight.mark(rho) {
+            Mark::Skip => {}
+            Mark::Far => marks.set(sight.place as usize, Mark::Far),
+            Mark::Near => marks.set(sight.place as usize, Mark::Near),
+        }
     }
     Ok(marks)
 }
@@ -84,16 +97,17 @@ fn take_seen(
     need: Need,
     sheet: Sheet,
 ) -> Result<(), AllocError>
+    requires { IsFew (seen_on sheet) }
     ensures { OnOk result (TakesSeen rho need (seen_on sheet.entry) walk.old walk.new) }
 {
     match sheet {
-        Sheet::Objects(seen) => {
-            let marks = mark_objects(alloc, &mut walk.hits, rho, seen)?;
+        Sheet::Objects { count, sights } => {
+            let marks = mark_objects(alloc, &mut walk.hits, rho, count, sights)?;
             push_record(&mut walk.records, need.page, marks)
         }
-        Sheet::Subtrees(seen) => {
-            push_needs(&mut walk.stack, rho, seen)?;
-            let marks = marks_at(alloc, rho, seen)?;
+        Sheet::Subtrees { count, sights } => {
+            push_needs(&mut walk.stack, rho, sights)?;
+            let marks = marks_at(alloc, rho, count, sights)?;
             push_record(&mut walk.records, need.page, marks)
         }
     }

@@ -1,15 +1,14 @@
 //! Opens a page.
 
-ghost use Rattle.std.specs.Prelude.{◌≡◌, ℕ, ◌+◌, ◌*◌, ◌≤◌, ◌++◌, map, length, IfOk, IfErr, OnOk, IsPermutation};
+ghost use Rattle.std.specs.Prelude.{◌≡◌, ◌+◌, ◌≤◌, ◌++◌, length, IfOk, IfErr, OnOk, IsPermutation};
 ghost use Rattle.std.specs.BinaryHeap.{heap_items};
 ghost use Rattle.metric_laws.specs.Counts.{next_count};
 ghost use Rattle.page_store.specs.Shelf.{HoldsSame, HasPageCause};
 ghost use Rattle.log_model.specs.Counts.{entry_count};
 ghost use Rattle.log_model.specs.Walk.{search_at};
 ghost use Rattle.nearest_search.specs.Machine.{dists_of, pendings_of};
-ghost use Rattle.nearest_search.specs.Opened.{leaf_dists, inner_pendings, PassesObjects, PassesSubtrees, Takes, Sees, IsOpened};
-ghost use Rattle.metric_laws.specs.Space.{Space};
-ghost use Rattle.nearest_search.specs.Seeing.{object_sight, subtree_sight};
+ghost use Rattle.nearest_search.specs.Opened.{leaf_dists, inner_pendings, Takes, Sees, IsOpened};
+ghost use Rattle.nearest_search.specs.Seeing.{objects_seen, subtrees_seen};
 ghost use Rattle.nearest_search.specs.Keeping.{SpansFit, blocks_of, kept_seen};
 
 use crate::frontier::Frontier;
@@ -17,68 +16,12 @@ use crate::kept::{Span, Turn};
 use crate::kth::Best;
 use crate::machine::Machine;
 use crate::pending::Pending;
-use crate::seen::{Sight, look, skip_of};
-use log_model::{Probe, entry_count};
+use crate::seen::{Sight, skip_of};
+use log_model::{Probe, entry_count, next_object, next_subtree};
 use metric_laws::Ruler;
 use page_store::{PageFault, Pages};
 use std::alloc::{AllocError, Global};
-use tree_shape::{InnerEntries, InnerView, LeafEntries, LeafView, Node};
-
-// Sees the objects from object `from` on that their parent distances rule out, and returns the first that they do not, or the number
-// of objects. They rule most objects out, so this loop does nothing else.
-fn pass_objects(
-    probe: Probe,
-    above: Option<u64>,
-    objects: &LeafView,
-    from: usize,
-    seen: &mut Vec<Sight>,
-) -> Result<usize, AllocError>
-    requires { from ≤ length objects.now }
-    ensures low { IfOk result (λ next. from ≤ next) }
-    ensures high { IfOk result (λ next. next ≤ length objects.now) }
-    ensures passed { IfOk result (λ next. (s : Space) →
-        PassesObjects (search_at s probe.entry.q.now probe.entry.rho) above objects.now from next seen.old.items seen.new.items) }
-{
-    let mut at = from;
-    while at < objects.len() {
-        let entry = objects.at(at);
-        let skip = skip_of(above, entry.parent, 0);
-        if probe.rho >= skip {
-            return Ok(at);
-        }
-        seen.push(Sight::skipped(entry.id, skip))?;
-        at += 1;
-    }
-    Ok(at)
-}
-
-// Sees the subtrees from subtree `from` on that their parent distances rule out, and returns the first that they do not, or the number
-// of subtrees.
-fn pass_subtrees(
-    probe: Probe,
-    above: Option<u64>,
-    subtrees: &InnerView,
-    from: usize,
-    seen: &mut Vec<Sight>,
-) -> Result<usize, AllocError>
-    requires { from ≤ length subtrees.now }
-    ensures low { IfOk result (λ next. from ≤ next) }
-    ensures high { IfOk result (λ next. next ≤ length subtrees.now) }
-    ensures passed { IfOk result (λ next. (s : Space) →
-        PassesSubtrees (search_at s probe.entry.q.now probe.entry.rho) above subtrees.now from next seen.old.items seen.new.items) }
-{
-    let mut at = from;
-    while at < subtrees.len() {
-        let entry = subtrees.at(at);
-        let skip = skip_of(above, entry.parent, entry.radius);
-        if probe.rho >= skip {
-            return Ok(at);
-        }
-        seen.push(Sight::skipped(entry.child, skip))?;
-        at += 1;
-    }
-    Ok(at)
-}
+use tree_shape::{InnerEntries, LeafEntries, Node};
 
 /// Takes in the distances of a leaf's objects.
 pub fn note_leaf<R: Ruler>(
@@ -89,25 +32,32 @@ pub fn note_leaf<R: Ruler>(
     best: &mut Best,
     seen: &mut Vec<Sight>,
 ) -> Result<(), AllocError>
+    requires few { length entries.now ≤ 32 }
     ensures metric { R.metric ruler.new ≡ R.metric ruler.old }
     ensures used { R.used ruler.new ≤ R.used ruler.old + length entries.now }
     ensures count { best.new.k ≡ best.old.k }
     ensures noted { OnOk result (Takes best.old.k (heap_items best.old.heap) (heap_items best.new.heap)
         (leaf_dists (search_at (R.M.space (R.metric ruler.old)) probe.entry.q.now probe.entry.rho) above entries.now)) }
     ensures seen { OnOk result (seen.new.items ≡ seen.old.items
-        ++ map (object_sight (search_at (R.M.space (R.metric ruler.old)) probe.entry.q.now probe.entry.rho) above) entries.now) }
+        ++ objects_seen (search_at (R.M.space (R.metric ruler.old)) probe.entry.q.now probe.entry.rho) above 0 entries.now) }
 {
     let objects = entries.seen();
-    let mut at = pass_objects(probe, above, &objects, 0, seen)?;
+    let mut at = next_object(above, probe.rho, &objects, 0);
     while at < objects.len() {
         let entry = objects.at(at);
         let skip = skip_of(above, entry.parent, 0);
-        let sight = look(ruler, probe, entry.point, entry.id, 0, skip);
-        seen.push(sight)?;
-        if sight.is_near(probe.rho) {
-            best.keep(sight.dist)?;
+        let dist = ruler.dist(entry.point, probe.q);
+        seen.push(Sight {
+            place: at as u32,
+            name: entry.id,
+            skip,
+            far: dist,
+            dist,
+        })?;
+        if dist <= probe.rho {
+            best.keep(dist)?;
         }
-        at = pass_objects(probe, above, &objects, at + 1, seen)?;
+        at = next_object(above, probe.rho, &objects, at + 1);
     }
     Ok(())
 }
@@ -121,29 +71,37 @@ pub fn queue_inner<R: Ruler>(
     frontier: &mut Frontier,
     seen: &mut Vec<Sight>,
 ) -> Result<(), AllocError>
+    requires few { length entries.now ≤ 32 }
     ensures metric { R.metric ruler.new ≡ R.metric ruler.old }
     ensures used { R.used ruler.new ≤ R.used ruler.old + length entries.now }
     ensures queued { OnOk result
         (IsPermutation (inner_pendings (search_at (R.M.space (R.metric ruler.old)) probe.entry.q.now probe.entry.rho) above
         entries.now ++ frontier.old) frontier.new) }
     ensures seen { OnOk result (seen.new.items ≡ seen.old.items
-        ++ map (subtree_sight (search_at (R.M.space (R.metric ruler.old)) probe.entry.q.now probe.entry.rho) above) entries.now) }
+        ++ subtrees_seen (search_at (R.M.space (R.metric ruler.old)) probe.entry.q.now probe.entry.rho) above 0 entries.now) }
 {
     let subtrees = entries.seen();
-    let mut at = pass_subtrees(probe, above, &subtrees, 0, seen)?;
+    let mut at = next_subtree(above, probe.rho, &subtrees, 0);
     while at < subtrees.len() {
         let entry = subtrees.at(at);
         let skip = skip_of(above, entry.parent, entry.radius);
-        let sight = look(ruler, probe, entry.point, entry.child, entry.radius, skip);
-        seen.push(sight)?;
-        if sight.is_near(probe.rho) {
+        let dist = ruler.dist(entry.point, probe.q);
+        let far = dist.saturating_sub(entry.radius);
+        seen.push(Sight {
+            place: at as u32,
+            name: entry.child,
+            skip,
+            far,
+            dist,
+        })?;
+        if far <= probe.rho {
             frontier.add(Pending {
-                low: sight.far,
+                low: far,
                 page: entry.child,
-                above: Some(sight.dist),
+                above: Some(dist),
             })?;
         }
-        at = pass_subtrees(probe, above, &subtrees, at + 1, seen)?;
+        at = next_subtree(above, probe.rho, &subtrees, at + 1);
     }
     Ok(())
 }
@@ -158,6 +116,7 @@ fn see_node<R: Ruler>(
     node: &Node,
     machine: &mut Machine,
 ) -> Result<Span, AllocError>
+    requires few { entry_count node.now ≤ 32 }
     ensures metric { R.metric ruler.new ≡ R.metric ruler.old }
     ensures used { R.used ruler.new ≤ R.used ruler.old + entry_count node.now }
     ensures count { machine.new.best.k ≡ machine.old.best.k }
@@ -171,7 +130,8 @@ fn see_node<R: Ruler>(
         (blocks_of machine.old.kept) (blocks_of machine.new.kept)) }
 {
     let kept = &mut machine.kept;
-    let block = kept.make_room(alloc, entry_count(node))?;
+    let count = entry_count(node);
+    let block = kept.make_room(alloc, count)?;
     let from = kept.last.len();
     match node {
         Node::Leaf(entries) => {
@@ -187,6 +147,7 @@ fn see_node<R: Ruler>(
                 block,
                 from,
                 to: kept.last.len(),
+                count,
                 is_leaf: true,
             })
         }
@@ -203,6 +164,7 @@ fn see_node<R: Ruler>(
                 block,
                 from,
                 to: kept.last.len(),
+                count,
                 is_leaf: false,
             })
         }

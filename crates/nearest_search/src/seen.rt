@@ -1,47 +1,37 @@
-//! What a search keeps of the entries that it looked at.
+//! What a search keeps of the entries whose distances it computed.
 
-ghost use Rattle.std.specs.Prelude.{◌≡◌, ◌+◌, ◌≤◌, ◌^◌};
-ghost use Rattle.log_model.specs.Walk.{search_at};
-ghost use Rattle.nearest_search.specs.Seeing.{skip_of, sight_of, mark_at, is_near};
+ghost use Rattle.std.specs.Prelude.{◌≡◌};
+ghost use Rattle.nearest_search.specs.Seeing.{skip_of, mark_at, is_near};
 
-use log_model::{Mark, Probe};
-use metric_laws::Ruler;
+use log_model::Mark;
 
-/// What is known of an entry that was looked at. It gives the entry's mark at each radius up to that of the search at the time.
+/// What is known of an entry whose distance was computed. It gives the entry's mark at each radius. An entry that the parent test
+/// ruled out has none: it is marked Skip at each radius up to that of the search at the time.
 #[derive(Clone, Copy)]
 pub struct Sight {
+    /// The entry's place in its node.
+    pub place: u32,
     /// The object's id, or the child's page.
     pub name: u32,
     /// No object of the entry is nearer, by the distances to the routing point above.
     pub skip: u64,
-    /// No object of the entry is nearer, by the entry's own distance. It is 0 where that was not computed.
+    /// No object of the entry is nearer, by the entry's own distance.
     pub far: u64,
-    /// The entry's distance. It is 0 where it was not computed.
+    /// The entry's distance.
     pub dist: u64,
 }
 
-/// What is known of the entries of an opened node, in the node's order.
+/// What is known of an opened node: the number of its entries, and the sights of those whose distances were computed, in the node's
+/// order.
 #[derive(Clone, Copy)]
 pub enum Sheet<'a> {
-    /// The objects of a leaf.
-    Objects(&'a [Sight]),
-    /// The subtrees of an inner node.
-    Subtrees(&'a [Sight]),
+    /// A leaf, and sights of its objects.
+    Objects { count: usize, sights: &'a [Sight] },
+    /// An inner node, and sights of its subtrees.
+    Subtrees { count: usize, sights: &'a [Sight] },
 }
 
 impl Sight {
-    /// Makes the sight of an entry that `skip` rules out.
-    pub fn skipped(name: u32, skip: u64) -> Self
-        ensures { result ≡ record { name = name; skip = skip; far = 0; dist = 0 } }
-    {
-        Sight {
-            name,
-            skip,
-            far: 0,
-            dist: 0,
-        }
-    }
-
     /// Returns the least mark of the entry at the radius `rho`.
     pub fn mark(&self, rho: u64) -> Mark
         ensures { result ≡ mark_at rho self.now }
@@ -81,34 +71,5 @@ pub fn skip_of(above: Option<u64>, stored: u64, radius: u64) -> u64
     match above {
         None => 0,
         Some(dist) => dist.abs_diff(stored).saturating_sub(radius),
-    }
-}
-
-/// Looks at an entry. Its distance is computed, unless `skip` rules it out at the radius of `probe`.
-// Inside the two loops that call it the sight stays in registers; a call would write `probe` and read the sight in memory each time.
-#[inline(always)]
-pub fn look<R: Ruler>(
-    ruler: &mut R,
-    probe: Probe,
-    point: &[u32],
-    name: u32,
-    radius: u64,
-    skip: u64,
-) -> Sight
-    ensures metric { R.metric ruler.new ≡ R.metric ruler.old }
-    ensures used { R.used ruler.new ≤ R.used ruler.old + 1 }
-    ensures bounded { result.dist ≤ 2 ^ 38 }
-    ensures sight { result ≡
-        sight_of (search_at (R.M.space (R.metric ruler.old)) probe.entry.q.now probe.entry.rho) name radius skip point.now }
-{
-    if probe.rho < skip {
-        return Sight::skipped(name, skip);
-    }
-    let dist = ruler.dist(point, probe.q);
-    Sight {
-        name,
-        skip,
-        far: dist.saturating_sub(radius),
-        dist,
     }
 }

@@ -1,11 +1,11 @@
-use Rattle.std.proofs.Common.{◌≡◌, ◌++◌, map, drop}
-use Rattle.log_model.proofs.Published.{marked_to}
-use Rattle.nearest_search.specs.Seeing.{mark_at, seen_near, hit_seen}
+use Rattle.std.proofs.Common.{◌≡◌, ◌++◌, map, drop, length}
+use Rattle.nearest_search.specs.Seeing.{marked_by, marks_seen, seen_near, hit_seen}
 use Rattle.nearest_search.proofs.logging.mark_objects.Given as goal
 
--- the hits and the marks so far, and the hits of the rest
+-- the hits and the marks so far, and those of the rest
 abbrev pub invariant-loop-index : goal.invariant-loop-index
 invariant-loop-index l = record {
-  hits : l.hits.items ++ map hit_seen (seen_near l.rho (drop l.index l.seen)) ≡ l.fn.hits.items ++ map hit_seen (seen_near l.rho l.seen);
-  marks : l.marks ≡ marked_to (mark_at l.rho) l.index l.seen;
+  hits : l.hits.items ++ map hit_seen (seen_near l.rho (drop l.index l.sights)) ≡ l.fn.hits.items ++ map hit_seen (seen_near l.rho l.sights);
+  marks : marked_by l.rho l.marks (drop l.index l.sights) ≡ marks_seen l.rho l.count l.sights;
+  long : length l.marks ≡ l.count;
 }
