@@ -1,7 +1,9 @@
+pub mod Ascending
 pub mod Lists
 pub mod Nearest
 pub mod Opens
 pub mod Pops
 pub mod Starts
+pub mod Tried
 pub mod Walking
 pub mod Ways

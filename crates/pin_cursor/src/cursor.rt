@@ -8,9 +8,9 @@ ghost use Rattle.metric_laws.specs.Counts.{CountsUpTo, count_up};
 ghost use Rattle.pin_cursor.specs.Cursor.{OpenCursor, begun, IsCursorOn, IsWalked, HoldsTree};
 ghost use Rattle.pin_cursor.specs.Steps.{HasStepCause, HasGiven, IsAccounted, IsReachedFrom, GivesNext};
 
+use crate::line::Line;
 use crate::stepping::{Goal, advance};
-use crate::waiting::Subtree;
-use crate::waits::{Candidates, Subtrees};
+use crate::waiting::{Candidate, Subtree};
 use crate::walk::Walk;
 use metric_laws::{Listed, Point, Ruler};
 use page_store::{PageFault, Pages};
@@ -26,8 +26,8 @@ pub struct Cursor {
     point: Point,
     given: u64,
     opened: u32,
-    subtrees: Subtrees,
-    candidates: Candidates,
+    subtrees: Line<Subtree>,
+    candidates: Line<Candidate>,
 }
 
 impl Model for Cursor {
@@ -38,12 +38,12 @@ impl Model for Cursor {
       point = c.point;
       given = c.given;
       opened = c.opened;
-      subtrees = c.subtrees;
-      candidates = c.candidates;
+      subtrees = c.subtrees.items;
+      candidates = c.candidates.items;
     } };
 
     // Only opened nodes are counted, and each of them has at most 32 objects.
-    ghost invariant = { λ c. (c.opened ≤ c.live.pages) × (c.given + length c.candidates ≤ 32 * c.opened) };
+    ghost invariant = { λ c. (c.opened ≤ c.live.pages) × (c.given + length c.candidates.items ≤ 32 * c.opened) };
 }
 
 /// The result of a step.
@@ -62,7 +62,7 @@ impl Cursor {
         ensures starts { IfOk result (λ c. (s : Space) (nodes : Nodes) → IsSpace s → IsSoundTree s nodes live →
             IsTrue (s.is_point q) → IsCursorOn s nodes c) }
     {
-        let mut subtrees = Subtrees::new(alloc);
+        let mut subtrees = Line::new(alloc);
         subtrees.add(Subtree {
             low: 0,
             page: live.root,
@@ -73,7 +73,7 @@ impl Cursor {
             given: 0,
             opened: 0,
             subtrees,
-            candidates: Candidates::new(alloc),
+            candidates: Line::new(alloc),
         })
     }
 
@@ -152,39 +152,64 @@ impl Cursor {
         ensures asked { CountsUpTo (P.shelf pages.old).asked (P.shelf pages.new).asked (self.old.live.pages - self.old.opened) }
         ensures reads { (P.shelf pages.new).reads ≤ (P.shelf pages.old).reads + (self.old.live.pages - self.old.opened) }
     {
-        let subtrees = self.subtrees.copy()?;
-        let candidates = self.candidates.copy()?;
-        let mut walk = Walk::begin(alloc, subtrees, candidates, self.opened, self.given);
+        let mut walk = Walk::begin(
+            alloc,
+            &mut self.subtrees,
+            &mut self.candidates,
+            self.opened,
+            self.given,
+        );
         let goal = Goal {
             q: self.point.as_slice(),
             n,
         };
-        advance(alloc, pages, ruler, &self.live, goal, &mut walk)?;
-        Ok(self.settle(walk))
+        match advance(alloc, pages, ruler, &self.live, goal, &mut walk) {
+            Ok(()) => Ok(self.settle(walk)),
+            Err(fault) => {
+                self.restore(walk);
+                Err(fault)
+            }
+        }
     }
 
     // Takes over the state of a finished step, and returns what it gives.
     fn settle(&mut self, walk: Walk) -> Stepped
         requires few { walk.opened ≤ self.old.live.pages }
-        requires room { walk.given + length walk.candidates ≤ 32 * walk.opened }
+        requires room { walk.given + length walk.candidates.waits ≤ 32 * walk.opened }
         ensures after { self.new ≡ record {
           live = self.old.live;
           point = self.old.point;
           given = walk.given;
           opened = walk.opened;
-          subtrees = walk.subtrees;
-          candidates = walk.candidates;
+          subtrees = walk.subtrees.waits;
+          candidates = walk.candidates.waits;
         } }
         ensures hits { result.hits ≡ walk.hits.items }
         ensures tags { result.tags ≡ walk.tags.items }
     {
-        self.subtrees = walk.subtrees;
-        self.candidates = walk.candidates;
+        self.subtrees = walk.subtrees.keep();
+        self.candidates = walk.candidates.keep();
         self.opened = walk.opened;
         self.given = walk.given;
         Stepped {
             hits: Listed::new(walk.hits),
             tags: Listed::new(walk.tags),
         }
+    }
+
+    // Takes back what waited before a step that was refused.
+    fn restore(&mut self, walk: Walk)
+        requires { self.old.given + length walk.candidates.handed ≤ 32 * self.old.opened }
+        ensures { self.new ≡ record {
+          live = self.old.live;
+          point = self.old.point;
+          given = self.old.given;
+          opened = self.old.opened;
+          subtrees = walk.subtrees.handed;
+          candidates = walk.candidates.handed;
+        } }
+    {
+        self.subtrees = walk.subtrees.undo();
+        self.candidates = walk.candidates.undo();
     }
 }

@@ -3,8 +3,10 @@
 #![tactic(auto)]
 
 mod cursor;
+mod line;
 mod opening;
 mod stepping;
+mod trial;
 mod waiting;
 mod waits;
 mod walk;

@@ -23,7 +23,8 @@ pub fn meet_objects<R: Ruler>(
 ) -> Result<(), AllocError>
     ensures metric { R.metric ruler.new ≡ R.metric ruler.old }
     ensures met { OnOk result (IsPermutation
-        (map (candidate_of (R.M.space (R.metric ruler.old)) q.now) entries.now ++ candidates.old) candidates.new) }
+        (map (candidate_of (R.M.space (R.metric ruler.old)) q.now) entries.now ++ candidates.old.waits) candidates.new.waits) }
+    ensures handed { candidates.new.handed ≡ candidates.old.handed }
 {
     let view = entries.seen();
     for index in 0..view.len() {
@@ -47,7 +48,8 @@ pub fn queue_subtrees<R: Ruler>(
 ) -> Result<(), AllocError>
     ensures metric { R.metric ruler.new ≡ R.metric ruler.old }
     ensures queued { OnOk result (IsPermutation
-        (map (subtree_of (R.M.space (R.metric ruler.old)) q.now) entries.now ++ subtrees.old) subtrees.new) }
+        (map (subtree_of (R.M.space (R.metric ruler.old)) q.now) entries.now ++ subtrees.old.waits) subtrees.new.waits) }
+    ensures handed { subtrees.new.handed ≡ subtrees.old.handed }
 {
     let view = entries.seen();
     for index in 0..view.len() {
@@ -62,8 +64,8 @@ pub fn queue_subtrees<R: Ruler>(
 }
 
 /// Opens a page: the objects or subtrees of its node wait from now on.
-/// Clauses: what changes (`node`); what stays (`metric`, `same`, `keeps`, `opened`, `given`, `hits`, `tags`); the cost (`asked`, `reads`);
-/// the cause of an error (`cause`); faults of the devices (`no_fault`).
+/// Clauses: what changes (`node`); what stays (`metric`, `same`, `keeps`, `opened`, `given`, `hits`, `tags`, `subtrees`,
+/// `candidates`); the cost (`asked`, `reads`); the cause of an error (`cause`); faults of the devices (`no_fault`).
 pub fn open_page<P: Pages, R: Ruler>(
     alloc: Global,
     pages: &mut P,
@@ -82,8 +84,10 @@ pub fn open_page<P: Pages, R: Ruler>(
     ensures given { walk.new.given ≡ walk.old.given }
     ensures hits { walk.new.hits ≡ walk.old.hits }
     ensures tags { walk.new.tags ≡ walk.old.tags }
-    ensures node { OnOk result (IsOpened (R.M.space (R.metric ruler.old)) q.now (P.shelf pages.old) page walk.old.candidates
-        walk.new.candidates walk.old.subtrees walk.new.subtrees) }
+    ensures node { OnOk result (IsOpened (R.M.space (R.metric ruler.old)) q.now (P.shelf pages.old) page walk.old.candidates.waits
+        walk.new.candidates.waits walk.old.subtrees.waits walk.new.subtrees.waits) }
+    ensures subtrees { walk.new.subtrees.handed ≡ walk.old.subtrees.handed }
+    ensures candidates { walk.new.candidates.handed ≡ walk.old.candidates.handed }
     ensures cause { IfErr result (HasPageCause (P.shelf pages.old) (P.shelf pages.new) page) }
 {
     let node = pages.node(alloc, page, None)?;

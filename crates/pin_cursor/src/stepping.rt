@@ -27,7 +27,8 @@ pub struct Goal<'a> {
 /// Gives the next hits: as many as are wanted, or all that are left. A subtree is opened before a candidate at the same distance as
 /// the subtree's lower bound is given, since it may hold an object with a lower id (VLDB 1997, section 3.2).
 /// Clauses: what is asked of the caller (`point`, `hits`, `tags`, `few`, `room`); what changes (`way`, `ends`); what stays (`metric`,
-/// `same`, `keeps`); the cost (`asked`, `reads`); the cause of an error (`cause`, `sound`); faults of the devices (`no_fault`).
+/// `same`, `keeps`, `subtrees`, `candidates`); the cost (`asked`, `reads`); the cause of an error (`cause`, `sound`); faults of the
+/// devices (`no_fault`).
 pub fn advance<P: Pages, R: Ruler>(
     alloc: Global,
     pages: &mut P,
@@ -40,38 +41,40 @@ pub fn advance<P: Pages, R: Ruler>(
     requires hits { walk.old.hits.items ≡ [] }
     requires tags { walk.old.tags.items ≡ [] }
     requires few { walk.old.opened ≤ live.now.pages }
-    requires room { walk.old.given + length walk.old.candidates ≤ 32 * walk.old.opened }
+    requires room { walk.old.given + length walk.old.candidates.waits ≤ 32 * walk.old.opened }
     ensures metric { R.metric ruler.new ≡ R.metric ruler.old }
     ensures same { HoldsSame (P.shelf pages.old) (P.shelf pages.new) }
     ensures no_fault { OnOk result ((P.shelf pages.new).faults ≡ (P.shelf pages.old).faults) }
     ensures keeps { P.keeps pages.old pages.new }
     ensures way { IfOk result (λ _. IsUnderWay (R.M.space (R.metric ruler.old)) (P.shelf pages.old) (P.shelf pages.new)
-        (stage live.now goal.entry.q.now walk.old.given walk.old.opened walk.old.subtrees walk.old.candidates)
-        (stage live.now goal.entry.q.now walk.new.given walk.new.opened walk.new.subtrees walk.new.candidates)
+        (stage live.now goal.entry.q.now walk.old.given walk.old.opened walk.old.subtrees.waits walk.old.candidates.waits)
+        (stage live.now goal.entry.q.now walk.new.given walk.new.opened walk.new.subtrees.waits walk.new.candidates.waits)
         walk.new.hits.items walk.new.tags.items) }
-    ensures ends { IfOk result (λ _. HasGiven goal.entry.n walk.new.hits.items walk.new.candidates walk.new.subtrees) }
+    ensures subtrees { walk.new.subtrees.handed ≡ walk.old.subtrees.handed }
+    ensures candidates { walk.new.candidates.handed ≡ walk.old.candidates.handed }
+    ensures ends { IfOk result (λ _. HasGiven goal.entry.n walk.new.hits.items walk.new.candidates.waits walk.new.subtrees.waits) }
     ensures asked { CountsUpTo (P.shelf pages.old).asked (P.shelf pages.new).asked (live.now.pages - walk.old.opened) }
     ensures reads { (P.shelf pages.new).reads ≤ (P.shelf pages.old).reads + (live.now.pages - walk.old.opened) }
-    ensures cause { IfErr result
-        (HasStepCause (stage live.now goal.entry.q.now walk.old.given walk.old.opened walk.old.subtrees walk.old.candidates)
+    ensures cause { IfErr result (HasStepCause
+        (stage live.now goal.entry.q.now walk.old.given walk.old.opened walk.old.subtrees.waits walk.old.candidates.waits)
         (P.shelf pages.old) (P.shelf pages.new)) }
     ensures sound { IfErr result (λ fault. (nodes : Nodes) → IsTrue (P.shelf pages.old).is_known →
         IsSoundTree (R.M.space (R.metric ruler.old)) nodes live.now → HoldsTree nodes live.now (P.shelf pages.old) →
         IsCursorOn (R.M.space (R.metric ruler.old)) nodes
-        (stage live.now goal.entry.q.now walk.old.given walk.old.opened walk.old.subtrees walk.old.candidates) →
+        (stage live.now goal.entry.q.now walk.old.given walk.old.opened walk.old.subtrees.waits walk.old.candidates.waits) →
         IsPassing fault) }
 {
     while (walk.hits.len() as u64) < goal.n {
         let spent = walk.opened == live.pages;
         let reach = reach_of(&walk.candidates);
-        if let Some(next) = take_within(&mut walk.subtrees, reach) {
+        if let Some(next) = take_within(&mut walk.subtrees, reach)? {
             if spent {
                 return Err(PageFault::Repeats(next.page));
             }
             open_page(alloc, pages, ruler, goal.q, next.page, walk)?;
             walk.opened += 1;
         } else {
-            let Some(next) = take_nearest(&mut walk.candidates) else {
+            let Some(next) = take_nearest(&mut walk.candidates)? else {
                 return Ok(());
             };
             walk.give(next)?;

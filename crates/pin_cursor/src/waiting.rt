@@ -1,6 +1,6 @@
 ghost use Rattle.std.proofs.Common.{rules};
 
-use nearest_search::ClonesExactly;
+use crate::line::TellsApart;
 
 /// A subtree that is not opened yet. Subtrees are ordered by their lower bound of the distance, then by page.
 #[derive(Clone, Copy, PartialEq, Eq, PartialOrd, Ord)]
@@ -22,10 +22,10 @@ pub struct Candidate {
     pub tag: u64,
 }
 
-impl ClonesExactly for Subtree {
-    ghost equal_clone = { Prim.search rules };
+impl TellsApart for Subtree {
+    ghost ties_equal = { Prim.search rules };
 }
 
-impl ClonesExactly for Candidate {
-    ghost equal_clone = { Prim.search rules };
+impl TellsApart for Candidate {
+    ghost ties_equal = { Prim.search rules };
 }

@@ -1,7 +1,9 @@
-ghost use Rattle.std.specs.Prelude.{◌≡◌, ◌+◌, ◌<◌, ◌^◌, [], ◌∷◌, ◌++◌, IfOk, OnOk};
+ghost use Rattle.std.specs.Prelude.{◌≡◌, ◌+◌, ◌<◌, ◌^◌, [], ◌∷◌, ◌++◌, OnOk};
 ghost use Rattle.pin_cursor.specs.Cursor.{hit_of};
 
-use crate::waiting::Candidate;
+use crate::line::Line;
+use crate::trial::Trial;
+use crate::waiting::{Candidate, Subtree};
 use crate::waits::{Candidates, Subtrees};
 use scan_model::Hit;
 use std::alloc::{AllocError, Global};
@@ -24,24 +26,25 @@ pub struct Walk {
 }
 
 impl Walk {
-    /// Begins a step with the cursor's subtrees, candidates and counts.
+    /// Begins a step with the cursor's counts and with what waits in `subtrees` and `candidates`, which are empty from then on.
     pub fn begin(
         alloc: Global,
-        subtrees: Subtrees,
-        candidates: Candidates,
+        subtrees: &mut Line<Subtree>,
+        candidates: &mut Line<Candidate>,
         opened: u32,
         given: u64,
     ) -> Self
-        ensures subtrees { result.subtrees ≡ subtrees }
-        ensures candidates { result.candidates ≡ candidates }
+        ensures subtrees { (result.subtrees.handed ≡ subtrees.old.items) × (result.subtrees.waits ≡ subtrees.old.items) }
+        ensures candidates { (result.candidates.handed ≡ candidates.old.items) × (result.candidates.waits ≡ candidates.old.items) }
+        ensures empty { (subtrees.new.items ≡ []) × (candidates.new.items ≡ []) }
         ensures opened { result.opened ≡ opened }
         ensures given { result.given ≡ given }
         ensures hits { result.hits.items ≡ [] }
         ensures tags { result.tags.items ≡ [] }
     {
         Walk {
-            subtrees,
-            candidates,
+            subtrees: Trial::begin(alloc, subtrees),
+            candidates: Trial::begin(alloc, candidates),
             opened,
             given,
             hits: Vec::new(alloc),
