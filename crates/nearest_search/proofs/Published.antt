@@ -2,5 +2,5 @@
 
 -- Sums over lists, and members in another order.
 pub use Rattle.nearest_search.proofs.Totals.{total-append, total-flat_map, total-permutation, in-permutation, in-permutation_back}
--- A list of one is in one order; one of what is still to be added was added.
-pub use Rattle.nearest_search.proofs.Waits.{one_alone, moved_one}
+-- One of what is still to be added was added.
+pub use Rattle.nearest_search.proofs.Waits.{moved_one}

@@ -13,5 +13,4 @@ mod queue;
 mod searching;
 mod seen;
 
-pub use queue::{ClonesExactly, MinQueue};
 pub use searching::nearest;

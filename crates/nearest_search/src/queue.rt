@@ -9,11 +9,6 @@ use std::cmp::Reverse;
 use std::collections::BinaryHeap;
 use std::marker::Model;
 
-/// A type whose clones are equal to what they were made from.
-pub trait ClonesExactly: Clone {
-    ghost equal_clone: { (x copy : Self) → Self.is_clone x copy → copy ≡ x };
-}
-
 /// What waits, the least first.
 #[derive(Drop)]
 pub struct MinQueue<T: Ord> {
@@ -29,15 +24,6 @@ impl<T: Ord> Model for MinQueue<T> {
 }
 
 impl<T: Ord + Drop> MinQueue<T> {
-    /// Makes an empty queue.
-    pub fn new(alloc: Global) -> Self
-        ensures { result ≡ [] }
-    {
-        MinQueue {
-            heap: BinaryHeap::new(alloc),
-        }
-    }
-
     /// Makes an empty queue with room for `count`.
     pub fn with_capacity(alloc: Global, count: usize) -> Result<Self, AllocError>
         ensures { IfOk result (λ queue. queue ≡ []) }
@@ -76,15 +62,5 @@ impl<T: Ord + Drop> MinQueue<T> {
             return None;
         };
         Some(first)
-    }
-}
-
-impl<T: Ord + ClonesExactly> MinQueue<T> {
-    /// Copies the queue.
-    pub fn copy(&self) -> Result<Self, AllocError>
-        ensures { IfOk result (λ copy. copy ≡ self.now) }
-    {
-        let heap = self.heap.clone()?;
-        Ok(MinQueue { heap })
     }
 }
