@@ -14,7 +14,7 @@ use Rattle.log_model.specs.Walk.{Search, search_at, away, parent_skips, is_skipp
 use Rattle.nearest_search.specs.declared.seen.Sight.{Sight}
 use Rattle.nearest_search.specs.Machine.{pending_of}
 use Rattle.nearest_search.specs.Opened.{leaf_dists, inner_pendings}
-use Rattle.nearest_search.specs.Seeing.{skip_of, object_sight, subtree_sight, sights_from, objects_seen, subtrees_seen, mark_at, is_near, put_mark, marked_by, marks_seen, seen_near, hit_seen, need_seen, Objects, Subtrees}
+use Rattle.nearest_search.specs.Seeing.{skip_of, object_sight, subtree_sight, sights_from, objects_seen, subtrees_seen, mark_at, put_mark, marked_by, marks_seen, seen_near, hit_seen, need_seen, Objects, Subtrees}
 use Rattle.nearest_search.specs.Keeping.{IsFew}
 
 less_less : (rho radius d : ℕ) → nat_lt rho (d - radius) ≡ nat_lt (rho + radius) d
@@ -30,36 +30,6 @@ less_far rho d = let same : rho + 0 ≡ rho = omega arith in rw same refl
 skips_same : (above : Option ℕ) (stored radius rho : ℕ) → nat_lt rho (skip_of above stored radius) ≡ parent_skips above stored rho radius
 skips_same None stored radius rho = grind (arith, nat_tests)
 skips_same (Some dist) stored radius rho = less_less rho radius (gap dist stored)
-
-abbrev pub unseen : Sight
-unseen = record { place = 0; name = 0; skip = 0; far = 0; dist = 0 }
-
--- an entry of a list, whatever stands for one outside
-pub same_entry : (xs : List Sight) (i : ℕ) (d e : Sight) → i < length xs → get_or xs i d ≡ get_or xs i e
-same_entry [] i d e low = absurd (omega arith)
-same_entry (x ∷ xs) zero d e low = refl
-same_entry (x ∷ xs) (suc i) d e low = same_entry xs i d e (omega arith)
-
--- what is marked Near of the rest, with an entry or without it
-module _ (rho : ℕ) (xs : List Sight) (i : ℕ) (x : Sight) (low : i < length xs) (is : x ≡ get_or xs i x) where
-  pub near_next : is_near (mark_at rho x) ≡ true → seen_near rho (drop i xs) ≡ x ∷ seen_near rho (drop (i + 1) xs)
-  near_next near = rw (add-one, drop-cons xs i x low, ← is, near) refl
-
-  pub far_next : is_near (mark_at rho x) ≡ false → seen_near rho (drop i xs) ≡ seen_near rho (drop (i + 1) xs)
-  far_next far = rw (add-one, drop-cons xs i x low, ← is, far) refl
-
-  pub marks_next : (marks : List Mark) → marked_by rho marks (drop i xs) ≡ marked_by rho (put_mark marks x.place (mark_at rho x)) (drop (i + 1) xs)
-  marks_next marks = rw (add-one, drop-cons xs i x low, ← is) refl
-
-module _ (rho : ℕ) (xs : List Sight) (i : ℕ) (x : Sight) (some : 0 < i) (most : i ≤ length xs) (is : x ≡ get_or xs (i - 1) x) where
-  back : i - 1 + 1 ≡ i
-  back = omega arith
-
-  pub near_back : is_near (mark_at rho x) ≡ true → seen_near rho (drop (i - 1) xs) ≡ x ∷ seen_near rho (drop i xs)
-  near_back near = near_next rho xs (i - 1) x (omega arith) is near ∙ ap (λ (j : ℕ). x ∷ seen_near rho (drop j xs)) back
-
-  pub far_back : is_near (mark_at rho x) ≡ false → seen_near rho (drop (i - 1) xs) ≡ seen_near rho (drop i xs)
-  far_back far = far_next rho xs (i - 1) x (omega arith) is far ∙ ap (λ (j : ℕ). seen_near rho (drop j xs)) back
 
 -- there are as many marks as before
 length-put : (marks : List Mark) (place : ℕ) (m : Mark) → length (put_mark marks place m) ≡ length marks
