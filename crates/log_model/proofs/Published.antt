@@ -30,5 +30,3 @@ pub use Rattle.log_model.proofs.JoinLeast.{join_least_sound}
 pub use Rattle.log_model.proofs.Reached.{reaches_more, walks_whole, reached_inside, count_up_more, count_up_both, measured-append}
 -- The logs of walks have a spelling.
 pub use Rattle.log_model.proofs.Valid.{valid_log, marks_long, hits_few}
--- The entries of a node, which are marked one after the other.
-pub use Rattle.log_model.proofs.Marked.{marked_to, length-marked, marked_next, marked_skipped, marked_all}
