@@ -16,4 +16,5 @@ pub mod Marked
 pub mod Places
 pub mod Reached
 pub mod Valid
+pub mod Meeting
 pub mod Published

@@ -30,3 +30,5 @@ pub use Rattle.log_model.proofs.JoinLeast.{join_least_sound}
 pub use Rattle.log_model.proofs.Reached.{reaches_more, walks_whole, reached_inside, count_up_more, count_up_both, measured-append}
 -- The logs of walks have a spelling.
 pub use Rattle.log_model.proofs.Valid.{valid_log, marks_long, hits_few}
+-- What the walk of a log meets, and what one more page adds to it.
+pub use Rattle.log_model.proofs.Meeting.{marks_node, marked_is, met_none, pages_needed, near_needs, tagged_more, hits_more}

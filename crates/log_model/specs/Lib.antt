@@ -1,6 +1,7 @@
 pub mod Grammar
 pub mod InOrder
 pub mod Walk
+pub mod Met
 pub mod Counts
 pub mod Steps
 pub mod Sound

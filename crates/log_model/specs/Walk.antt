@@ -102,10 +102,7 @@ abbrev pub hits_of : Search → Node → List Mark → List Hit
 hits_of f (Leaf es) marks = map (hit_of f) (near_ones es marks)
 hits_of f (Inner level es) marks = []
 
--- the hits of a leaf, and the pages needed of an inner node, by the least marks
-abbrev pub leaf_hits : Search → Option ℕ → List LeafEntry → List Hit
-leaf_hits f above es = map (hit_of f) (near_ones es (leaf_marks f above es))
-
+-- the pages needed of an inner node, by the least marks
 abbrev pub inner_needs : Search → Option ℕ → List InnerEntry → List Need
 inner_needs f above es = map (need_of f) (near_ones es (inner_marks f above es))
 

@@ -12,6 +12,7 @@ mod matching;
 mod node_marks;
 mod pairing;
 mod pairs;
+mod tagged;
 mod traversal;
 
 pub use answering::{put_hits_in_order, put_pairs_in_order, radius_of, select};
@@ -23,4 +24,5 @@ pub use matching::{JoinProbe, Matches};
 pub use node_marks::NodeMarks;
 pub use pairing::{is_far, is_skipped};
 pub use pairs::JoinNeed;
+pub use tagged::TaggedHit;
 pub use traversal::{Traversal, entry_count};

@@ -1,7 +1,8 @@
 ghost use Rattle.std.specs.Prelude.{◌≡◌, IfOk};
+ghost use Rattle.log_model.specs.Met.{hits_among};
 ghost use Rattle.log_model.specs.Sound.{selected};
 
-use crate::{JoinRecord, Record, Traversal, select};
+use crate::{JoinRecord, Record, TaggedHit, Traversal, select};
 use metric_laws::Listed;
 use scan_model::{Hit, Pair, Query};
 use std::alloc::{AllocError, Global};
@@ -42,6 +43,8 @@ pub struct JoinLog {
 pub struct Found {
     /// The answers, by distance, then by id.
     pub hits: Listed<Hit>,
+    /// The objects that the log marks Near, in the order of its walk, with their tags.
+    pub tagged: Listed<TaggedHit>,
     /// The log of the search.
     pub log: Log,
 }
@@ -55,6 +58,13 @@ pub struct Joined {
     pub log: JoinLog,
 }
 
+// Returns the hits without their tags.
+fn hits_among(alloc: Global, tagged: &[TaggedHit]) -> Result<Vec<Hit>, AllocError>
+    ensures { IfOk result (λ hits. hits.items ≡ hits_among tagged.now) }
+{
+    tagged.iter().map(|one| one.hit).collect(alloc)
+}
+
 impl Found {
     /// Returns the result of the query `query` from its finished walk `walk` of the live tree.
     pub fn of(alloc: Global, live: &Live, query: Query, walk: Traversal) -> Result<Self, AllocError>
@@ -62,14 +72,16 @@ impl Found {
         ensures root { IfOk result (λ found. found.log.root ≡ live.now.root) }
         ensures query { IfOk result (λ found. found.log.query ≡ query) }
         ensures records { IfOk result (λ found. found.log.records ≡ walk.records.items) }
-        ensures answers { IfOk result (λ found. found.log.answers ≡ selected query walk.hits.items) }
+        ensures answers { IfOk result (λ found. found.log.answers ≡ selected query (hits_among walk.tagged.items)) }
+        ensures tagged { IfOk result (λ found. found.tagged ≡ walk.tagged.items) }
         ensures hits { IfOk result (λ found. found.hits ≡ found.log.answers) }
     {
-        let mut answers = walk.hits;
+        let mut answers = hits_among(alloc, walk.tagged.as_slice())?;
         select(&query, &mut answers);
         let hits = answers.iter().copied().collect(alloc)?;
         Ok(Found {
             hits: Listed::new(hits),
+            tagged: Listed::new(walk.tagged),
             log: Log {
                 generation: live.generation,
                 root: live.root,

@@ -5,9 +5,10 @@ ghost use Rattle.metric_laws.specs.Counts.{count_up};
 ghost use Rattle.tree_shape.specs.declared.entry.LeafEntry.{LeafEntry};
 ghost use Rattle.tree_shape.specs.declared.entry.InnerEntry.{InnerEntry};
 ghost use Rattle.log_model.specs.Counts.{measured_by};
-ghost use Rattle.log_model.specs.Walk.{search_at, parent_skips, leaf_marks, inner_marks, leaf_hits, inner_needs};
+ghost use Rattle.log_model.specs.Walk.{search_at, parent_skips, leaf_marks, inner_marks, inner_needs};
+ghost use Rattle.log_model.specs.Met.{leaf_tagged};
 
-use crate::{Mark, Need, NodeMarks};
+use crate::{Mark, Need, NodeMarks, TaggedHit};
 use metric_laws::{Ruler, centre_test, parent_test};
 use scan_model::Hit;
 use std::alloc::{AllocError, Global};
@@ -84,14 +85,14 @@ pub fn next_subtree(above: Option<u64>, rho: u64, subtrees: &InnerView, from: us
     at
 }
 
-// Returns the least marks of a leaf's entries, and appends the objects that are marked Near to the hits.
+// Returns the least marks of a leaf's entries, and appends the objects that are marked Near to `tagged`.
 pub(crate) fn mark_leaf<R: Ruler>(
     alloc: Global,
     ruler: &mut R,
     probe: Probe,
     above: Option<u64>,
     entries: &LeafEntries,
-    hits: &mut Vec<Hit>,
+    tagged: &mut Vec<TaggedHit>,
 ) -> Result<NodeMarks, AllocError>
     ensures metric { R.metric ruler.new ≡ R.metric ruler.old }
     ensures counted { OnOk result
@@ -100,8 +101,8 @@ pub(crate) fn mark_leaf<R: Ruler>(
         entries.now))) }
     ensures marks { IfOk result (λ marks.
         marks ≡ leaf_marks (search_at (R.M.space (R.metric ruler.old)) probe.entry.q.now probe.entry.rho) above entries.now) }
-    ensures hits { OnOk result
-        (hits.new.items ≡ hits.old.items ++ leaf_hits
+    ensures tagged { OnOk result
+        (tagged.new.items ≡ tagged.old.items ++ leaf_tagged
         (search_at (R.M.space (R.metric ruler.old)) probe.entry.q.now probe.entry.rho) above entries.now) }
 {
     let objects = entries.seen();
@@ -114,7 +115,10 @@ pub(crate) fn mark_leaf<R: Ruler>(
             marks.set(at, Mark::Far);
         } else {
             marks.set(at, Mark::Near);
-            hits.push(Hit { id: entry.id, dist })?;
+            tagged.push(TaggedHit {
+                hit: Hit { id: entry.id, dist },
+                tag: entry.tag,
+            })?;
         }
         at = next_object(above, probe.rho, &objects, at + 1);
     }

@@ -7,9 +7,8 @@ ghost use Rattle.log_model.specs.Walk.{search_at, least_marks, root_need};
 ghost use Rattle.log_model.specs.Steps.{TakesNode};
 
 use crate::marking::{mark_inner, mark_leaf};
-use crate::{Need, Probe, Record};
+use crate::{Need, Probe, Record, TaggedHit};
 use metric_laws::Ruler;
-use scan_model::Hit;
 use std::alloc::{AllocError, Global};
 use tree_shape::Node;
 
@@ -20,7 +19,7 @@ const SOME_RECORDS: usize = 64;
 #[derive(Drop)]
 pub struct Traversal {
     /// The objects that are marked Near, in the order of the walk.
-    pub hits: Vec<Hit>,
+    pub tagged: Vec<TaggedHit>,
     /// The opened nodes, in the order of the walk.
     pub records: Vec<Record>,
     /// The pages that the walk needs, the next one last.
@@ -50,7 +49,7 @@ fn put_on_top(stack: &mut Vec<Need>, needs: &mut Vec<Need>) -> Result<(), AllocE
 impl Traversal {
     /// Makes a walk that needs only the root.
     pub fn begin(alloc: Global, root: u32) -> Result<Self, AllocError>
-        ensures hits { IfOk result (λ t. t.hits.items ≡ []) }
+        ensures tagged { IfOk result (λ t. t.tagged.items ≡ []) }
         ensures records { IfOk result (λ t. t.records.items ≡ []) }
         ensures stack { IfOk result (λ t. t.stack.items ≡ root_need root ∷ []) }
     {
@@ -61,13 +60,13 @@ impl Traversal {
             },
         ]?;
         Ok(Traversal {
-            hits: Vec::new(alloc),
+            tagged: Vec::new(alloc),
             records: Vec::with_capacity(alloc, SOME_RECORDS)?,
             stack,
         })
     }
 
-    /// Processes the node of a needed page: appends its record with the least marks and the hits that they name, and puts the pages
+    /// Processes the node of a needed page: appends its record with the least marks and the objects that they name, and puts the pages
     /// that they need on top of the stack.
     pub fn take_node<R: Ruler>(
         &mut self,
@@ -87,7 +86,7 @@ impl Traversal {
     {
         let marks = match node {
             Node::Leaf(entries) => {
-                mark_leaf(alloc, ruler, probe, need.above, entries, &mut self.hits)?
+                mark_leaf(alloc, ruler, probe, need.above, entries, &mut self.tagged)?
             }
             Node::Inner { entries, .. } => {
                 let mut needs = Vec::new(alloc);

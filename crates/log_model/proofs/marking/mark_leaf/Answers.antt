@@ -1,10 +1,11 @@
 use Rattle.std.proofs.Common.{◌≡◌, ◌∙◌, ◌++◌, ◌≤◌, ◌<◌, ◌+◌, [], ◌∷◌, ℕ, List, Option, true, false, ap, refl, subst, arith, get_or, length}
 use Rattle.std.specs.Prelude.{replicate}
-use Rattle.scan_model.specs.declared.hit.Hit.{Hit}
 use Rattle.tree_shape.specs.declared.entry.LeafEntry.{LeafEntry}
 use Rattle.tree_shape.specs.Entries.{leaf_of}
 use Rattle.log_model.specs.declared.marks.Mark.TheVariants.{Skip}
-use Rattle.log_model.specs.Walk.{Search, search_at, away, is_skipped, hit_of, least_for_object}
+use Rattle.log_model.specs.declared.tagged.TaggedHit.{TaggedHit}
+use Rattle.log_model.specs.Walk.{Search, search_at, away, is_skipped, least_for_object}
+use Rattle.log_model.specs.Met.{tagged_of}
 use Rattle.log_model.proofs.Marked.{IsMarkedTo, AreSkipped, length-made, begun, skipped, far_next, near_next, all_marked, object_skipped, object_far, object_near}
 use Rattle.log_model.proofs.marking.mark_leaf.Goals as goal
 use Rattle.log_model.proofs.marking.mark_leaf.Goals.{then-centre_test, else-centre_test+in_ok-push}
@@ -25,25 +26,25 @@ loop-at-init g c =
     let seen = c.seen-objects in
     let next = c.next_object-at in
     let used = g.R.Ruler.used c.args.ruler.now in
-    let hits = c.args.hits.now.items in
+    let tagged = c.args.tagged.now.items in
     let none : c.in_ok-marks.marks ≡ replicate (length es) Skip = c.in_ok-marks.ensures ∙ ap (λ (n : ℕ). replicate n Skip) (cc (c.len.ensures, seen.ensures)) in
     record {
       metric = refl;
       next = unskipped f c.args.above next.result seen.result es seen.ensures next.ensures.next;
-      marked = skipped (least_for_object f c.args.above) (hit_of f) es 0 next.result c.in_ok-marks.marks used used hits hits next.ensures.low
+      marked = skipped (least_for_object f c.args.above) (tagged_of f.space f.point) es 0 next.result c.in_ok-marks.marks used used tagged tagged next.ensures.low
           (ruled_out f c.args.above 0 next.result seen.result es seen.ensures next.ensures.ruled_out)
-          (rw none (begun (least_for_object f c.args.above) (hit_of f) es used hits));
+          (rw none (begun (least_for_object f c.args.above) (tagged_of f.space f.point) es used tagged));
     }
 
 pub set-requires : goal.set-requires
 set-requires g c =
     let f : Search = search_at (g.R.M.Metric.space (g.R.Ruler.metric c.args.ruler.now)) c.args.probe.q.now c.args.probe.rho in
-    omega (arith, length-made (least_for_object f c.args.above) (hit_of f) c.args.entries.now c.loop-at.at c.loop-at.marks (g.R.Ruler.used c.args.ruler.now) (g.R.Ruler.used c.loop-at.ruler) c.args.hits.now.items c.loop-at.hits.items c.loop-at.invariant.marked, c.loop-at-test.true, c.len-in-loop-at.ensures, ap length c.seen-objects.ensures)
+    omega (arith, length-made (least_for_object f c.args.above) (tagged_of f.space f.point) c.args.entries.now c.loop-at.at c.loop-at.marks (g.R.Ruler.used c.args.ruler.now) (g.R.Ruler.used c.loop-at.ruler) c.args.tagged.now.items c.loop-at.tagged.items c.loop-at.invariant.marked, c.loop-at-test.true, c.len-in-loop-at.ensures, ap length c.seen-objects.ensures)
 
 pub set-requires-else-centre_test : goal.set-requires-else-centre_test
 set-requires-else-centre_test g c =
     let f : Search = search_at (g.R.M.Metric.space (g.R.Ruler.metric c.args.ruler.now)) c.args.probe.q.now c.args.probe.rho in
-    omega (arith, length-made (least_for_object f c.args.above) (hit_of f) c.args.entries.now c.loop-at.at c.loop-at.marks (g.R.Ruler.used c.args.ruler.now) (g.R.Ruler.used c.loop-at.ruler) c.args.hits.now.items c.loop-at.hits.items c.loop-at.invariant.marked, c.loop-at-test.true, c.len-in-loop-at.ensures, ap length c.seen-objects.ensures)
+    omega (arith, length-made (least_for_object f c.args.above) (tagged_of f.space f.point) c.args.entries.now c.loop-at.at c.loop-at.marks (g.R.Ruler.used c.args.ruler.now) (g.R.Ruler.used c.loop-at.ruler) c.args.tagged.now.items c.loop-at.tagged.items c.loop-at.invariant.marked, c.loop-at-test.true, c.len-in-loop-at.ensures, ap length c.seen-objects.ensures)
 
 pub loop-at-preserved : goal.loop-at-preserved
 loop-at-preserved g c =
@@ -56,39 +57,40 @@ loop-at-preserved g c =
     let used = g.R.Ruler.used c.args.ruler.now in
     let used2 = g.R.Ruler.used c.loop-at.ruler in
     let used3 = g.R.Ruler.used c.dist-dist.new.self in
-    let hits = c.args.hits.now.items in
-    let hits2 = c.loop-at.hits.items in
+    let tagged = c.args.tagged.now.items in
+    let tagged2 = c.loop-at.tagged.items in
     let so_far = c.loop-at.invariant in
     let low : at < length es = omega (arith, c.loop-at-test.true, c.len-in-loop-at.ensures, ap length seen.ensures) in
     let is : e ≡ get_or es at e = c.at-entry.ensures ∙ ap (λ (l : List LeafEntry). get_or l at e) seen.ensures in
     let left : is_skipped f c.args.above e.parent 0 ≡ false = ap (λ (d : LeafEntry). is_skipped f c.args.above d.parent 0) is ∙ so_far.next e low in
     let dist : c.dist-dist.result ≡ away f e.point = cc (c.dist-dist.ensures.value, so_far.metric) in
-    let hit : ◌≡◌ {A = Hit} (record { id = e.id; dist = c.dist-dist.result }) (hit_of f e) = ap (λ (d : ℕ). record { id = e.id; dist = d }) dist in
-    let here : IsMarkedTo (least_for_object f c.args.above) (hit_of f) es (at + 1) c.if-centre_test.marks used used3 hits c.if-centre_test.hits.items =
+    let one : ◌≡◌ {A = TaggedHit} (record { hit = record { id = e.id; dist = c.dist-dist.result }; tag = e.tag }) (tagged_of f.space f.point e) =
+    ap (λ (d : ℕ). record { hit = record { id = e.id; dist = d }; tag = e.tag }) dist in
+    let here : IsMarkedTo (least_for_object f c.args.above) (tagged_of f.space f.point) es (at + 1) c.if-centre_test.marks used used3 tagged c.if-centre_test.tagged.items =
     elim c.if-centre_test.branch [
       | then-centre_test w ↦
           (
-          rw (w.marks-is, w.set.ensures, w.hits-is)
-          (far_next (least_for_object f c.args.above) (hit_of f) es at e low is c.loop-at.marks used used2 used3 hits hits2
+          rw (w.marks-is, w.set.ensures, w.tagged-is)
+          (far_next (least_for_object f c.args.above) (tagged_of f.space f.point) es at e low is c.loop-at.marks used used2 used3 tagged tagged2
           (object_far f c.args.above e left (cc (c.centre_test.ensures, w.if-centre_test.true, dist))) c.dist-dist.ensures.counted so_far.marked)
           )
       | else-centre_test+in_ok-push w ↦
           (
-          rw (w.marks-is, w.set-else-centre_test.ensures, w.hits-is)
-          (near_next (least_for_object f c.args.above) (hit_of f) es at e low is c.loop-at.marks used used2 used3 hits hits2 w.push.new.self.items
+          rw (w.marks-is, w.set-else-centre_test.ensures, w.tagged-is)
+          (near_next (least_for_object f c.args.above) (tagged_of f.space f.point) es at e low is c.loop-at.marks used used2 used3 tagged tagged2 w.push.new.self.items
           (object_near f c.args.above e left (cc (c.centre_test.ensures, w.if-centre_test.false, dist))) c.dist-dist.ensures.counted
-          (w.in_ok-push.ensures.items ∙ ap (λ (h : Hit). hits2 ++ h ∷ []) hit) so_far.marked)
+          (w.in_ok-push.ensures.items ∙ ap (λ (t : TaggedHit). tagged2 ++ t ∷ []) one) so_far.marked)
           )
     ] in
     record {
       metric = c.dist-dist.ensures.same ∙ so_far.metric;
       next = unskipped f c.args.above next.result seen.result es seen.ensures next.ensures.next;
-      marked = skipped (least_for_object f c.args.above) (hit_of f) es (at + 1) next.result c.if-centre_test.marks used used3 hits c.if-centre_test.hits.items next.ensures.low
+      marked = skipped (least_for_object f c.args.above) (tagged_of f.space f.point) es (at + 1) next.result c.if-centre_test.marks used used3 tagged c.if-centre_test.tagged.items next.ensures.low
           (ruled_out f c.args.above (at + 1) next.result seen.result es seen.ensures next.ensures.ruled_out) here;
     }
 
 pub returns-clause-marks : goal.returns-clause-marks
 returns-clause-marks g c =
     let f : Search = search_at (g.R.M.Metric.space (g.R.Ruler.metric c.args.ruler.now)) c.args.probe.q.now c.args.probe.rho in
-    (all_marked (least_for_object f c.args.above) (hit_of f) c.args.entries.now c.loop-at.at c.loop-at.marks (g.R.Ruler.used c.args.ruler.now) (g.R.Ruler.used c.loop-at.ruler) c.args.hits.now.items c.loop-at.hits.items
+    (all_marked (least_for_object f c.args.above) (tagged_of f.space f.point) c.args.entries.now c.loop-at.at c.loop-at.marks (g.R.Ruler.used c.args.ruler.now) (g.R.Ruler.used c.loop-at.ruler) c.args.tagged.now.items c.loop-at.tagged.items
     (omega (arith, c.loop-at-test.false, c.len-in-loop-at.ensures, ap length c.seen-objects.ensures)) c.loop-at.invariant.marked).0
