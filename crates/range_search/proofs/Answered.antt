@@ -1,6 +1,7 @@
 -- What a whole walk finds, and why it may fail on a sound tree.
 use Rattle.std.proofs.Common.{◌≡◌, ℕ, ◌≤◌, ◌^◌, List, [], ◌∷◌, sym, ap, ◌∙◌, Some, None, Err, arith, length, subst, min}
 use Rattle.std.specs.Prelude.{IsTrue}
+use Rattle.std.proofs.lemmas.List.{length-map}
 use Rattle.metric_laws.specs.Space.{Space, IsSpace, bound}
 use Rattle.scan_model.specs.declared.hit.Hit.{Hit}
 use Rattle.scan_model.specs.declared.query.Query.{Query}
@@ -14,19 +15,23 @@ use Rattle.page_store.specs.Shelf.{Shelf, IsPassing}
 use Rattle.log_model.specs.declared.logs.Found.{Found}
 use Rattle.log_model.specs.declared.marks.Record.{Record}
 use Rattle.log_model.specs.Grammar.{IsValidQuery}
+use Rattle.log_model.specs.declared.tagged.TaggedHit.{TaggedHit}
 use Rattle.log_model.specs.Walk.{Search, AreLeast, WalksBy, search_at, root_need}
+use Rattle.log_model.specs.Met.{hits_among}
 use Rattle.log_model.specs.Sound.{IsLeastLog, search_for, selected}
 use Rattle.log_model.specs.Laws.{scan_answers}
 use Rattle.log_model.proofs.Published.{valid_log, sound_complete, least_sound, reached_inside, walks_whole}
 use Rattle.range_search.specs.Searched.{IsUnderWay, IsFound, Needs, HasWalkCause}
 
 -- a log of the least walk is the least log of a range
-pub range_found : (s : Space) → IsSpace s → (live : Live) (q : List ℕ) (r : ℕ) → IsTrue (s.is_point q) → live.pages ≤ 2 ^ 24 → (old new : Shelf) (u v : ℕ) (records : List Record) (hits : List Hit) →
-    IsUnderWay (search_at s q (min r bound)) old new u v live.root records hits [] → length records ≤ live.pages → (found : Found) →
-    found.log.generation ≡ live.generation → found.log.root ≡ live.root → found.log.query ≡ Range q r → found.log.records ≡ records → found.log.answers ≡ selected (Range q r) hits → found.hits ≡ found.log.answers →
+pub range_found : (s : Space) → IsSpace s → (live : Live) (q : List ℕ) (r : ℕ) → IsTrue (s.is_point q) → live.pages ≤ 2 ^ 24 → (old new : Shelf) (u v : ℕ) (records : List Record) (tagged : List TaggedHit) →
+    IsUnderWay (search_at s q (min r bound)) old new u v live.root records tagged [] → length records ≤ live.pages → (found : Found) →
+    found.log.generation ≡ live.generation → found.log.root ≡ live.root → found.log.query ≡ Range q r → found.log.records ≡ records → found.log.answers ≡ selected (Range q r) (hits_among tagged) → found.hits ≡ found.log.answers →
     IsFound s live (Range q r) old new u v found
-range_found s axioms live q r is_point few old new u v records hits way fewer found generation root query are answers same =
+range_found s axioms live q r is_point few old new u v records tagged way fewer found generation root query are answers same =
+    let hits : List Hit = hits_among tagged in
     let few_hits = way.few_hits in
+    let as_many = length-map tagged (λ t. t.hit) in
     record {
       log = record {
         hits_are = same;

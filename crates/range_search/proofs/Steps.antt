@@ -1,6 +1,7 @@
 -- The steps of a search.
-use Rattle.std.proofs.Common.{◌≡◌, ℕ, suc, ◌+◌, ◌<◌, ◌≤◌, false, List, [], ◌∷◌, ◌++◌, refl, sym, ap, ◌∙◌, Some, Err, arith, length, length-append, subst, reverse}
+use Rattle.std.proofs.Common.{◌≡◌, ℕ, suc, ◌+◌, ◌<◌, ◌≤◌, false, List, [], ◌∷◌, ◌++◌, refl, sym, ap, ◌∙◌, Some, Err, arith, length, length-append, subst, reverse, map}
 use Rattle.std.specs.Prelude.{IsTrue}
+use Rattle.std.proofs.lemmas.List.{length-map}
 use Rattle.metric_laws.specs.Counts.{next_count, count_up}
 use Rattle.metric_laws.proofs.Published.{all_append}
 use Rattle.scan_model.specs.declared.hit.Hit.{Hit}
@@ -17,8 +18,10 @@ use Rattle.log_model.specs.declared.marks.Need.{Need}
 use Rattle.log_model.specs.declared.traversal.Traversal.{Traversal}
 use Rattle.log_model.specs.Counts.{measured, measured_by, entry_count}
 use Rattle.log_model.specs.Steps.{TakesNode}
-use Rattle.log_model.specs.Walk.{Search, AreLeast, ReachesBy, least_marks, hits_of, record_of, root_need}
-use Rattle.log_model.proofs.Published.{marks_long, hits_few, reaches_more, count_up_more, count_up_both, measured-append}
+use Rattle.log_model.specs.declared.tagged.TaggedHit.{TaggedHit}
+use Rattle.log_model.specs.Walk.{Search, AreLeast, ReachesBy, least_marks, hits_of, needs_of, record_of, root_need}
+use Rattle.log_model.specs.Met.{near_objects, tagged_of, hits_among}
+use Rattle.log_model.proofs.Published.{marks_long, hits_few, hits_more, tagged_more, reaches_more, count_up_more, count_up_both, measured-append}
 use Rattle.range_search.specs.Searched.{IsUnderWay, Needs, HasWalkCause}
 use Rattle.page_store.proofs.Published.{holds_both, told_then}
 
@@ -27,17 +30,20 @@ entries_few : (dim : ℕ) (node : Node) → IsValidNode dim node → entry_count
 entries_few dim (Leaf es) valid = let few = valid.0 in omega arith
 entries_few dim (Inner level es) valid = let few = valid.3 in omega arith
 
-step_on : (f : Search) (old now next : Shelf) (u v w root : ℕ) (n : Need) (node : Node) (rs : List Record) (hits : List Hit) (left : List Need) (needs : List Need) →
+-- the pages, the counts, and what the pages' nodes are known to name
+step_on : (f : Search) (old now next : Shelf) (u v w root : ℕ) (n : Need) (node : Node) (rs : List Record) (tagged : List TaggedHit) (left needs : List Need) →
     IsNodeOf now n.page node → HoldsSame now next → next.asked ≡ next_count now.asked → next.reads ≤ now.reads + 1 → w ≡ count_up v (measured_by (least_marks f n.above node)) →
-    (IsTrue old.is_known → ReachesBy AreLeast f (nodes_of old.read) (root_need root ∷ []) (rs ++ record_of f n node ∷ []) (hits ++ hits_of f node (least_marks f n.above node)) needs) →
-    IsUnderWay f old now u v root rs hits left →
-    IsUnderWay f old next u w root (rs ++ record_of f n node ∷ []) (hits ++ hits_of f node (least_marks f n.above node)) needs
-step_on f old now next u v w root n node rs hits left needs is same asked reads used walk before =
+    needs ≡ needs_of f node (least_marks f n.above node) ++ left → IsUnderWay f old now u v root rs tagged (n ∷ left) →
+    IsUnderWay f old next u w root (rs ++ record_of f n node ∷ []) (tagged ++ map (tagged_of f.space f.point) (near_objects node (least_marks f n.above node))) needs
+step_on f old now next u v w root n node rs tagged left needs is same asked reads used next_needs before =
     let r : Record = record_of f n node in
+    let near : List TaggedHit = map (tagged_of f.space f.point) (near_objects node (least_marks f n.above node)) in
     let long = length-append rs (r ∷ []) in
-    let more = length-append hits (hits_of f node (least_marks f n.above node)) in
+    let more = length-append tagged near in
     let entries = entries_few now.dim node is.valid in
     let few = hits_few f node (least_marks f n.above node) in
+    let as_many : length near ≡ length (hits_of f node (least_marks f n.above node)) =
+    sym (length-map near (λ t. t.hit)) ∙ ap length (hits_more f node (least_marks f n.above node) [] near refl) in
     let many = marks_long f n.above node in
     record {
       holds = holds_both old now next before.holds same;
@@ -50,26 +56,31 @@ step_on f old now next u v w root n node rs hits left needs is same asked reads 
           ∙ ap (count_up u) (sym (measured-append rs r));
       few_marks = all_append (λ (q : Record). length q.marks ≤ 32) rs (r ∷ []) before.few_marks ((omega arith), tt);
       few_hits = (let b = before.few_hits in omega arith);
-      walk = walk;
+      walk = λ is_known.
+          subst (λ (ns : List Need). ReachesBy AreLeast f (nodes_of old.read) (root_need root ∷ []) (rs ++ r ∷ []) (hits_among (tagged ++ near)) ns) (sym next_needs)
+          (subst (λ (hs : List Hit). ReachesBy AreLeast f (nodes_of old.read) (root_need root ∷ []) (rs ++ r ∷ []) hs (needs_of f node (least_marks f n.above node) ++ left))
+          (sym (hits_more f node (least_marks f n.above node) tagged (tagged ++ near) refl))
+          (reaches_more AreLeast f (nodes_of old.read) (root_need root ∷ []) rs (hits_among tagged) n left node (least_marks f n.above node)
+          (told_then old now n.page node before.holds is is_known) refl (before.walk is_known)));
+      tagged_are = λ is_known.
+          ap (λ (ts : List TaggedHit). ts ++ near) (before.tagged_are is_known)
+          ∙ sym (tagged_more f (nodes_of old.read) n left node (told_then old now n.page node before.holds is is_known) root rs (hits_among tagged) (before.walk is_known));
     }
 
 pub step : (f : Search) (old now next : Shelf) (u v w root : ℕ) (n : Need) (node : Node) (one other : Traversal) →
     IsNodeOf now n.page node → HoldsSame now next → next.asked ≡ next_count now.asked → next.reads ≤ now.reads + 1 → w ≡ count_up v (measured_by (least_marks f n.above node)) →
     TakesNode f n node one other →
-    IsUnderWay f old now u v root one.records.items one.hits.items (n ∷ reverse one.stack.items) →
-    IsUnderWay f old next u w root other.records.items other.hits.items (reverse other.stack.items)
+    IsUnderWay f old now u v root one.records.items one.tagged.items (n ∷ reverse one.stack.items) →
+    IsUnderWay f old next u w root other.records.items other.tagged.items (reverse other.stack.items)
 step f old now next u v w root n node one other is same asked reads used takes before =
-    rw (takes.records, takes.hits)
-    (step_on f old now next u v w root n node one.records.items one.hits.items (n ∷ reverse one.stack.items) (reverse other.stack.items) is same asked reads used
-    (λ is_known. subst (λ (ns : List Need). ReachesBy AreLeast f (nodes_of old.read) (root_need root ∷ []) (one.records.items ++ record_of f n node ∷ []) (one.hits.items ++ hits_of f node (least_marks f n.above node)) ns) (sym takes.needs)
-    (reaches_more AreLeast f (nodes_of old.read) (root_need root ∷ []) one.records.items one.hits.items n (reverse one.stack.items) node (least_marks f n.above node)
-    (told_then old now n.page node before.holds is is_known) refl (before.walk is_known)))
-    before)
+    rw (takes.records, takes.tagged)
+    (step_on f old now next u v w root n node one.records.items one.tagged.items (reverse one.stack.items) (reverse other.stack.items) is same asked reads used takes.needs before)
 
 -- a walk begins
 
-pub begins : (f : Search) (old : Shelf) (u root : ℕ) (rs : List Record) (hits : List Hit) (stack : List Need) → rs ≡ [] → hits ≡ [] → stack ≡ root_need root ∷ [] → IsUnderWay f old old u u root rs hits (reverse stack)
-begins f old u root rs hits stack none no_hits one = rw (none, no_hits, one) (record {
+pub begins : (f : Search) (old : Shelf) (u root : ℕ) (rs : List Record) (tagged : List TaggedHit) (stack : List Need) → rs ≡ [] → tagged ≡ [] → stack ≡ root_need root ∷ [] →
+    IsUnderWay f old old u u root rs tagged (reverse stack)
+begins f old u root rs tagged stack none no_hits one = rw (none, no_hits, one) (record {
   holds = record { dim = refl; pages = refl; is_known = refl; read = refl; faults = (omega arith) };
   asked = refl;
   reads = omega arith;
@@ -77,13 +88,14 @@ begins f old u root rs hits stack none no_hits one = rw (none, no_hits, one) (re
   few_marks = tt;
   few_hits = omega arith;
   walk = λ is_known. (refl, refl);
+  tagged_are = λ is_known. refl;
 })
 
 -- why a step refuses is why the walk does
 
-module _ (f : Search) (live : Live) (old now next : Shelf) (u v : ℕ) (n : Need) (rest : List Need) (rs : List Record) (hits : List Hit) (way : IsUnderWay f old now u v live.root rs hits (n ∷ rest)) where
+module _ (f : Search) (live : Live) (old now next : Shelf) (u v : ℕ) (n : Need) (rest : List Need) (rs : List Record) (tagged : List TaggedHit) (way : IsUnderWay f old now u v live.root rs tagged (n ∷ rest)) where
   needs_here : (opened page : ℕ) → n.page ≡ page → length rs ≡ opened → IsTrue old.is_known → Needs f (nodes_of old.read) live.root opened page
-  needs_here opened page is count is_known = record { records = rs; hits = hits; next = n; rest = rest; walk = way.walk is_known; is = is; count = count }
+  needs_here opened page is count is_known = record { records = rs; hits = hits_among tagged; next = n; rest = rest; walk = way.walk is_known; is = is; count = count }
 
   pub cause_here : (fault : PageFault) → length rs < live.pages → HasPageCause now next n.page fault → HasWalkCause f live old next fault
   cause_here Disk low cause = (let l = way.holds.faults in let c = cause in omega arith)
@@ -114,9 +126,9 @@ module _ (f : Search) (live : Live) (old now next : Shelf) (u v : ℕ) (n : Need
   repeats_here all = (way.asked ∙ ap (count_up old.asked) all, λ is_known. needs_here live.pages n.page refl all is_known)
 
 -- the walk goes on with the same metric
-pub goes_on : (f g : Search) (old now next : Shelf) (u v w root : ℕ) (n : Need) (stack rest left : List Need) (rs rs' : List Record) (hits hits' : List Hit) → g ≡ f → stack ≡ n ∷ rest →
-    (IsUnderWay g old now u v root rs hits (n ∷ rest) → IsUnderWay g old next u w root rs' hits' left) →
-    IsUnderWay f old now u v root rs hits stack → IsUnderWay f old next u w root rs' hits' left
-goes_on f g old now next u v w root n stack rest left rs rs' hits hits' same top on way =
-    subst (λ (h : Search). IsUnderWay h old next u w root rs' hits' left) same
-    (on (subst (λ (h : Search). IsUnderWay h old now u v root rs hits (n ∷ rest)) (sym same) (subst (λ (ns : List Need). IsUnderWay f old now u v root rs hits ns) top way)))
+pub goes_on : (f g : Search) (old now next : Shelf) (u v w root : ℕ) (n : Need) (stack rest left : List Need) (rs rs' : List Record) (tagged tagged' : List TaggedHit) → g ≡ f → stack ≡ n ∷ rest →
+    (IsUnderWay g old now u v root rs tagged (n ∷ rest) → IsUnderWay g old next u w root rs' tagged' left) →
+    IsUnderWay f old now u v root rs tagged stack → IsUnderWay f old next u w root rs' tagged' left
+goes_on f g old now next u v w root n stack rest left rs rs' tagged tagged' same top on way =
+    subst (λ (h : Search). IsUnderWay h old next u w root rs' tagged' left) same
+    (on (subst (λ (h : Search). IsUnderWay h old now u v root rs tagged (n ∷ rest)) (sym same) (subst (λ (ns : List Need). IsUnderWay f old now u v root rs tagged ns) top way)))

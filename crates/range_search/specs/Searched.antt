@@ -14,22 +14,25 @@ use Rattle.page_store.specs.Shelf.{Shelf, HoldsSame}
 use Rattle.log_model.specs.declared.logs.Found.{Found}
 use Rattle.log_model.specs.declared.marks.Record.{Record}
 use Rattle.log_model.specs.declared.marks.Need.{Need}
+use Rattle.log_model.specs.declared.tagged.TaggedHit.{TaggedHit}
 use Rattle.metric_laws.specs.Counts.{count_up}
 use Rattle.log_model.specs.Counts.{measured}
 use Rattle.log_model.specs.Sound.{IsLogOf, IsLeastLog}
 use Rattle.log_model.specs.Walk.{Search, ReachesBy, AreLeast, root_need}
+use Rattle.log_model.specs.Met.{hits_among, tagged_by}
 
--- A walk from the root with the least marks has opened the pages of the records `records`, named the hits `hits`, and needs the
+-- A walk from the root with the least marks has opened the pages of the records `records`, met the objects `tagged`, and needs the
 -- pages `left`. It asked for one page for each record, and computed one distance for each entry that wasn't skipped. What the walk
 -- is, is known only for pages that tell what they hold.
-pub record IsUnderWay (f : Search) (old now : Shelf) (used_old used_now root : ℕ) (records : List Record) (hits : List Hit) (left : List Need) : Type 0 where
+pub record IsUnderWay (f : Search) (old now : Shelf) (used_old used_now root : ℕ) (records : List Record) (tagged : List TaggedHit) (left : List Need) : Type 0 where
   pub holds : HoldsSame old now
   pub asked : now.asked ≡ count_up old.asked (length records)
   pub reads : now.reads ≤ old.reads + length records
   pub used : used_now ≡ count_up used_old (measured records)
   pub few_marks : AllByRecursion (λ r. length r.marks ≤ 32) records
-  pub few_hits : length hits ≤ 32 * length records
-  pub walk : IsTrue old.is_known → ReachesBy AreLeast f (nodes_of old.read) (root_need root ∷ []) records hits left
+  pub few_hits : length tagged ≤ 32 * length records
+  pub walk : IsTrue old.is_known → ReachesBy AreLeast f (nodes_of old.read) (root_need root ∷ []) records (hits_among tagged) left
+  pub tagged_are : IsTrue old.is_known → tagged ≡ tagged_by f.space f.point (nodes_of old.read) root records
 
 -- the walk with the least marks opens `opened` pages and then needs page `page`
 pub record Needs (f : Search) (nodes : Nodes) (root opened page : ℕ) : Type 0 where

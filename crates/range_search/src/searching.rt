@@ -7,6 +7,7 @@ ghost use Rattle.tree_shape.specs.Tree.{IsSoundTree, points_by_id};
 ghost use Rattle.page_store.specs.Reading.{nodes_of};
 ghost use Rattle.page_store.specs.Shelf.{Shelf, HoldsSame, HasPageCause, IsPassing};
 ghost use Rattle.log_model.specs.Walk.{search_at, root_need};
+ghost use Rattle.log_model.specs.Met.{tagged_by};
 ghost use Rattle.range_search.specs.Searched.{IsUnderWay, HasWalkCause, IsFound};
 
 use log_model::{Found, Need, Probe, Traversal};
@@ -33,9 +34,9 @@ fn open_page<P: Pages, R: Ruler>(
     ensures keeps { P.keeps pages.old pages.new }
     ensures opened { OnOk result ((old : Shelf) (used root : ℕ) →
         IsUnderWay (search_at (R.M.space (R.metric ruler.old)) probe.entry.q.now probe.entry.rho) old (P.shelf pages.old)
-        used (R.used ruler.old) root walk.old.records.items walk.old.hits.items (need ∷ reverse walk.old.stack.items) →
+        used (R.used ruler.old) root walk.old.records.items walk.old.tagged.items (need ∷ reverse walk.old.stack.items) →
         IsUnderWay (search_at (R.M.space (R.metric ruler.old)) probe.entry.q.now probe.entry.rho) old (P.shelf pages.new)
-        used (R.used ruler.new) root walk.new.records.items walk.new.hits.items (reverse walk.new.stack.items)) }
+        used (R.used ruler.new) root walk.new.records.items walk.new.tagged.items (reverse walk.new.stack.items)) }
     ensures longer { OnOk result (length walk.new.records.items ≡ length walk.old.records.items + 1) }
     ensures cause { IfErr result (HasPageCause (P.shelf pages.old) (P.shelf pages.new) need.page) }
     ensures asked { (P.shelf pages.new).asked ≡ next_count (P.shelf pages.old).asked }
@@ -62,7 +63,7 @@ fn follow<P: Pages, R: Ruler>(
     ensures keeps { P.keeps pages.old pages.new }
     ensures ok { IfOk result (λ walk. IsUnderWay (search_at (R.M.space (R.metric ruler.old)) probe.entry.q.now probe.entry.rho)
         (P.shelf pages.old) (P.shelf pages.new)
-        (R.used ruler.old) (R.used ruler.new) live.now.root walk.records.items walk.hits.items []) }
+        (R.used ruler.old) (R.used ruler.new) live.now.root walk.records.items walk.tagged.items []) }
     ensures few { IfOk result (λ walk. length walk.records.items ≤ live.now.pages) }
     ensures cause { IfErr result (HasWalkCause (search_at (R.M.space (R.metric ruler.old)) probe.entry.q.now probe.entry.rho)
         live.now (P.shelf pages.old) (P.shelf pages.new)) }
@@ -88,8 +89,9 @@ fn follow<P: Pages, R: Ruler>(
 /// A page that holds no node is `Bad`. A page below 3 or not below the number of pages is `Outside`. A page is `Repeats` where the
 /// walk has opened as many nodes as the file has pages and needs this page too. None of these comes on a sound tree. `Disk` comes
 /// where the disk failed.
-/// Clauses: what is asked of the caller (`point`, `few_pages`); the answer (`scanned`); the answer and its cost (`found`); what stays
-/// (`metric`, `same`, `keeps`); the cost (`asked`, `reads`); the cause of an error (`cause`, `sound`); faults of the devices (`no_fault`).
+/// Clauses: what is asked of the caller (`point`, `few_pages`); the answer (`scanned`, `tagged`); the answer and its cost (`found`); what
+/// stays (`metric`, `same`, `keeps`); the cost (`asked`, `reads`); the cause of an error (`cause`, `sound`); faults of the devices
+/// (`no_fault`).
 pub fn range<P: Pages, R: Ruler>(
     alloc: Global,
     pages: &mut P,
@@ -114,6 +116,10 @@ pub fn range<P: Pages, R: Ruler>(
     ensures scanned { IfOk result (λ found. IsTrue (P.shelf pages.old).is_known →
         IsSoundTree (R.M.space (R.metric ruler.old)) (nodes_of (P.shelf pages.old).read) live.now →
         found.hits ≡ range_hits (R.M.space (R.metric ruler.old)) (points_by_id (nodes_of (P.shelf pages.old).read) live.now) q.now r) }
+    // The objects that the log's walk meets, with their tags.
+    ensures tagged { IfOk result (λ found. IsTrue (P.shelf pages.old).is_known →
+        found.tagged ≡ tagged_by (R.M.space (R.metric ruler.old)) q.now (nodes_of (P.shelf pages.old).read) live.now.root
+        found.log.records) }
     ensures sound { IfErr result (λ fault. IsTrue (P.shelf pages.old).is_known →
         IsSoundTree (R.M.space (R.metric ruler.old)) (nodes_of (P.shelf pages.old).read) live.now → IsPassing fault) }
 {

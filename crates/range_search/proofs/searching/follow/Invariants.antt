@@ -11,7 +11,7 @@ invariant-loop-need g l = record {
   count : l.opened ≡ length l.walk.records.items;
   low : l.opened ≤ l.live.pages;
   way : IsUnderWay (search_at (g.R.M.Metric.space (g.R.Ruler.metric l.fn.ruler)) l.probe.q.now l.probe.rho) (g.P.Pages.shelf l.fn.pages) (g.P.Pages.shelf l.pages)
-      (g.R.Ruler.used l.fn.ruler) (g.R.Ruler.used l.ruler) l.live.root l.walk.records.items l.walk.hits.items (reverse l.walk.stack.items);
+      (g.R.Ruler.used l.fn.ruler) (g.R.Ruler.used l.ruler) l.live.root l.walk.records.items l.walk.tagged.items (reverse l.walk.stack.items);
 }
 
 abbrev pub decreases-loop-need : goal.decreases-loop-need
