@@ -5,7 +5,7 @@ use Rattle.std.specs.Prelude.{count_by, Some, None, if◌then◌else◌, nat_lt}
 use Rattle.std.specs.List.{AllByRecursion}
 use Rattle.metric_laws.specs.Space.{IsSpace}
 use Rattle.metric_laws.specs.Lists.{IsIn}
-use Rattle.metric_laws.proofs.Published.{all_in}
+use Rattle.metric_laws.proofs.Published.{all_in, all_each}
 use Rattle.tree_shape.specs.declared.live.Live.{Live}
 use Rattle.tree_shape.specs.declared.entry.Node.{Node}
 use Rattle.tree_shape.specs.Fill.{root_least}
@@ -20,7 +20,7 @@ use Rattle.page_store.specs.declared.staging.Placed.{Placed}
 use Rattle.page_store.specs.Numbers.{number_at, numbered, AreNumbers}
 use Rattle.page_store.specs.Placing.{live_pages, AreOutside, staged_tree}
 use Rattle.page_store.specs.Staging.{pages_of}
-use Rattle.page_store.proofs.Published.{HoldsFrom, pages_from, trees_from, trees_numbered, stand_holds, in_times, times_in, all_each, number_up, number_within, given_once, pages_numbered, given_out, given_apart, given_each, IsStoredAt, sound_of_stored, with_id, tally_ids, tally_count, AreCounted}
+use Rattle.page_store.proofs.Published.{HoldsFrom, pages_from, trees_from, trees_numbered, stand_holds, in_times, times_in, number_up, number_within, given_once, pages_numbered, given_out, given_apart, given_each, IsStoredAt, sound_of_stored, with_id, tally_ids, tally_count, AreCounted}
 use Rattle.bulk_load.specs.Sets.{top_height, top_nodes, IsValidLoad}
 use Rattle.bulk_load.specs.Postorder.{subtrees_of, last_of}
 use Rattle.bulk_load.specs.Loaded.{Stand, LeavesOld, HasLoaded}

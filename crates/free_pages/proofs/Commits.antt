@@ -6,7 +6,7 @@ use Rattle.std.proofs.lemmas.Bool.{cases_lt}
 use Rattle.std.proofs.lemmas.Bool.Decides.{nat_tests}
 use Rattle.std.proofs.lemmas.List.{get_or-take, length-take}
 use Rattle.metric_laws.specs.Lists.{IsIn}
-use Rattle.metric_laws.proofs.Published.{all_in, in-append_left, in-map, map-in}
+use Rattle.metric_laws.proofs.Published.{all_in, all_each, in-append_left, in-map, map-in}
 use Rattle.tree_shape.specs.Tree.{times}
 use Rattle.page_store.specs.Numbers.{Ascends, AreNumbers, number_at}
 use Rattle.page_store.specs.Reading.{IsWithin}
@@ -20,10 +20,6 @@ use Rattle.free_pages.proofs.Members.{leaving_keeps, while_pinned, pins_keep, pa
 use Rattle.free_pages.proofs.Whole.{in_from_times, times_from_in}
 
 -- ---- the first of a list, and the rest
-
-all_of : {X : Type 0} (P : X → Type 0) (xs : List X) → ((x : X) → IsIn x xs → P x) → AllByRecursion P xs
-all_of P [] each = tt
-all_of P (x ∷ xs) each = (each x (inl refl), all_of P xs (λ y i. each y (inr i)))
 
 in_take : {X : Type 0} (n : ℕ) (xs : List X) (x : X) → IsIn x (take n xs) → IsIn x xs
 in_take zero xs x i = absurd i
@@ -193,11 +189,11 @@ keep_outside pages next_pages used generation f staged left tree next_tree kept 
 -- ---- what is handed in, and what is placed there
 
 pub free_numbers : FreePagesAreNumbers
-free_numbers pages n f kept within = least_numbers pages n f.free kept.free_ascend (all_of (IsWithin pages) f.free (λ page i. within page (inl i)))
+free_numbers pages n f kept within = least_numbers pages n f.free kept.free_ascend (all_each (IsWithin pages) f.free (λ page i. within page (inl i)))
 
 pub placements_exchange : PlacementsExchange
 placements_exchange head t n added f placed kept within three left placement = record {
-  given = all_of (λ (p : ℕ). IsIn p (take used f.free) ⊎ (t.pages ≤ p)) (pages_of placed.staged) given;
+  given = all_each (λ (p : ℕ). IsIn p (take used f.free) ⊎ (t.pages ≤ p)) (pages_of placed.staged) given;
   uses = uses;
   more = let e = placement.pages in omega arith;
   fresh = placement.new_pages;

@@ -4,7 +4,7 @@ use Rattle.std.specs.Prelude.{IsSome, ◌==◌}
 use Rattle.std.specs.List.{AllByRecursion}
 use Rattle.std.proofs.lemmas.Bool.Decides.{nat_tests}
 use Rattle.metric_laws.specs.Lists.{IsIn}
-use Rattle.metric_laws.proofs.Published.{all_append, all_in, in-append, in-filter}
+use Rattle.metric_laws.proofs.Published.{all_append, all_in, all_each, in-append, in-filter}
 use Rattle.disk_model.specs.Disk.{DiskState, LeavesOnly}
 use Rattle.tree_shape.specs.declared.live.Live.{Live}
 use Rattle.tree_shape.specs.declared.entry.Node.{Node}
@@ -21,7 +21,7 @@ use Rattle.page_store.specs.Reached.{StandsOnPages}
 use Rattle.page_store.specs.Reading.{IsWithin, node_or_none}
 use Rattle.page_store.specs.Staging.{pages_of, staged_for}
 use Rattle.page_store.specs.Succession.{IsWritten, ShareNone, without}
-use Rattle.page_store.proofs.Published.{placements_new, go_on, new_stands, stand_on_pages, all_each, in_times as times_from_in}
+use Rattle.page_store.proofs.Published.{placements_new, go_on, new_stands, stand_on_pages, in_times as times_from_in}
 use Rattle.shadow_root.specs.Commit.{IsReady, IsStagedFor, IsInPlace, KeepsTree}
 use Rattle.shadow_root.specs.Live.{IsSuccessor}
 use Rattle.shadow_root.specs.Placements.{KeepsBytes}

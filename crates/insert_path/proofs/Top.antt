@@ -4,7 +4,7 @@ use Rattle.std.specs.Prelude.{◌↔◌, Some, None, IsTrue, if◌then◌else◌
 use Rattle.std.specs.List.{AllByRecursion}
 use Rattle.metric_laws.specs.Space.{IsSpace}
 use Rattle.metric_laws.specs.Lists.{IsIn}
-use Rattle.metric_laws.proofs.Published.{all_in}
+use Rattle.metric_laws.proofs.Published.{all_in, all_each}
 use Rattle.tree_shape.specs.declared.live.Live.{Live}
 use Rattle.tree_shape.specs.declared.entry.Node.{Node}
 use Rattle.tree_shape.specs.Fill.{root_least}
@@ -19,7 +19,7 @@ use Rattle.page_store.specs.declared.staging.Placed.{Placed}
 use Rattle.page_store.specs.Shelf.{Shelf}
 use Rattle.page_store.specs.Reading.{nodes_of}
 use Rattle.page_store.specs.Staging.{pages_of, staged_for}
-use Rattle.page_store.proofs.Published.{IsStoredAt, sound_of_stored, AreCounted, with_id, HoldsFrom, trees_from, pages_from, stand_holds, trees_numbered, in_times, times_in, all_each, lower_or, given_once, free_none, pages_numbered, given_free, given_apart, given_each}
+use Rattle.page_store.proofs.Published.{IsStoredAt, sound_of_stored, AreCounted, with_id, HoldsFrom, trees_from, pages_from, stand_holds, trees_numbered, in_times, times_in, lower_or, given_once, free_none, pages_numbered, given_free, given_apart, given_each}
 use Rattle.insert_path.specs.Placing.{fresh, fresh_root, fresh_of, HasInserted}
 use Rattle.insert_path.specs.Descent.{Plan, rules_of, Walks}
 use Rattle.insert_path.proofs.Holding.{grown_tree}

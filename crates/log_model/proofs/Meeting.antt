@@ -15,8 +15,8 @@ use Rattle.log_model.specs.declared.marks.Record.{Record}
 use Rattle.log_model.specs.declared.tagged.TaggedHit.{TaggedHit}
 use Rattle.log_model.specs.Counts.{entry_count}
 use Rattle.log_model.specs.Walk.{Search, ReachesBy, AreLeast, least_marks, near_ones, need_of, needs_of, hit_of, hits_of, record_of, root_need}
-use Rattle.log_model.specs.Met.{near_objects, near_pages, with_marks, marked_node, met_from, met, tagged_of, hits_among, tagged_by}
-use Rattle.log_model.proofs.Walk.{map-append, same_node}
+use Rattle.log_model.specs.Met.{near_objects, near_pages, with_marks, marked_node, met, tagged_of, hits_among, tagged_by}
+use Rattle.log_model.proofs.Walk.{map-append}
 use Rattle.log_model.proofs.Valid.{marks_long}
 
 -- ---- a marked node

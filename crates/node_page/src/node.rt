@@ -1,4 +1,4 @@
-ghost use Rattle.std.specs.Prelude.{ℕ, ◌≡◌, ◌≢◌, ◌⊎◌, ◌+◌, ◌*◌, ◌/◌, ◌≤◌, ◌<◌, ◌==◌, length, nat_le, take, true, IfOk, IfErr, Ok, Err, Some, None, slice_index};
+ghost use Rattle.std.specs.Prelude.{ℕ, ◌≡◌, ◌⊎◌, ◌+◌, ◌*◌, ◌/◌, ◌≤◌, ◌<◌, ◌==◌, length, nat_le, true, IfOk, IfErr, Ok, Err, Some, None, slice_index};
 ghost use Rattle.metric_laws.specs.Space.{bound};
 ghost use Rattle.tree_shape.specs.Fill.{most_for};
 ghost use Rattle.node_page.specs.declared.node.Unread.TheVariants.{Memory};

@@ -11,7 +11,7 @@ pub use Rattle.page_store.proofs.Results.{holds_at_ok}
 -- The pages that new nodes are given.
 pub use Rattle.page_store.proofs.Given.{next_at, number_in, number_out, lower_or, number_up, number_within, given_once, pages_numbered, numbered_long, given_in, free_none}
 -- What a file with staged nodes shows.
-pub use Rattle.page_store.proofs.Standing.{HoldsFrom, holds_append, holds_after, pages_from, pages_append, pages_more, trees_from, trees_append, trees_more, trees_numbered, in_get, stand_holds, in_times, times_in, all_each}
+pub use Rattle.page_store.proofs.Standing.{HoldsFrom, holds_append, holds_after, pages_from, pages_append, pages_more, trees_from, trees_append, trees_more, trees_numbered, in_get, stand_holds, in_times, times_in}
 -- New nodes on their pages can be committed.
 pub use Rattle.page_store.proofs.Giving.{limit_small, given_out, given_free, given_apart, given_each, staged_out}
 -- Stored distances and levels of a file's nodes.

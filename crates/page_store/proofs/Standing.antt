@@ -91,7 +91,3 @@ times_in n (x ∷ xs) k = cases (x == n) refl (times_in n xs) k
     cases : (b : Bool) → (x == n) ≡ b → (1 ≤ times n xs → IsIn n xs) → 1 ≤ (if b then 1 else 0) + times n xs → IsIn n (x ∷ xs)
     cases true e ih k = inl (let s : n ≡ x = grind (arith, nat_tests) in s)
     cases false e ih k = inr (ih (omega arith))
-
-pub all_each : {X : Type 0} (Q : X → Type 0) (xs : List X) → ((x : X) → IsIn x xs → Q x) → AllByRecursion Q xs
-all_each Q [] each = tt
-all_each Q (x ∷ xs) each = (each x (inl refl), all_each Q xs (λ y k. each y (inr k)))

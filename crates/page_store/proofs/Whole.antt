@@ -5,7 +5,7 @@ use Rattle.std.specs.List.{AllByRecursion, flat_map}
 use Rattle.std.proofs.lemmas.Bool.Decides.{nat_tests}
 use Rattle.metric_laws.specs.Space.{Space}
 use Rattle.metric_laws.specs.Lists.{IsIn}
-use Rattle.metric_laws.proofs.Published.{all_in, all_weaker, all_flat_map, flat_map-append, map-in}
+use Rattle.metric_laws.proofs.Published.{all_in, all_each, all_weaker, all_flat_map, flat_map-append, map-in}
 use Rattle.tree_shape.specs.declared.entry.InnerEntry.{InnerEntry}
 use Rattle.tree_shape.specs.declared.entry.Node.{Node}
 use Rattle.tree_shape.specs.declared.live.Live.{Live}
@@ -17,7 +17,7 @@ use Rattle.page_store.specs.Placing.{live_pages}
 use Rattle.page_store.specs.Reached.{IsReached, StandsOnPages, named_in}
 use Rattle.page_store.specs.Reached.IsReached.{at_root, by_child}
 use Rattle.page_store.proofs.Named.{in_node}
-use Rattle.page_store.proofs.Standing.{all_each, in_times, times_in}
+use Rattle.page_store.proofs.Standing.{in_times, times_in}
 
 -- ---- what a sound tree names
 

@@ -8,7 +8,7 @@ use Rattle.std.specs.List.{AllByRecursion}
 use Rattle.std.specs.Ordering.{is_eq, is_lt, ordering_reverse}
 use Rattle.std.proofs.lemmas.List.Sorted.{ranks_by, length_permutation, IsPermutation-cons, IsPermutation-refl, IsPermutation-swap, IsPermutation-trans}
 use Rattle.metric_laws.specs.Lists.{IsIn}
-use Rattle.metric_laws.proofs.Published.{all_in, all_weaker}
+use Rattle.metric_laws.proofs.Published.{all_in, all_each, all_weaker}
 use Rattle.nearest_search.specs.Counts.{total}
 use Rattle.nearest_search.specs.Least.{IsLeast}
 use Rattle.nearest_search.proofs.Published.{in-permutation_back, total-permutation}
@@ -40,10 +40,6 @@ module _ {X : Type 0} (order : X → X → Ordering) where
   pub put_first : (x : X) (xs : List X) → AllByRecursion (λ y. is_lt (order y x) ≡ false) xs → put_in order x xs ≡ x ∷ xs
   put_first x [] first = refl
   put_first x (y ∷ ys) first = rw first.0 refl
-
-  all_each : (P : X → Type 0) (xs : List X) → ((y : X) → IsIn y xs → P y) → AllByRecursion P xs
-  all_each P [] each = tt
-  all_each P (x ∷ xs) each = (each x (inl refl), all_each P xs (λ y k. each y (inr k)))
 
   pub line_front : (x : X) (xs : List X) → ((y : X) → IsIn y xs → is_lt (order y x) ≡ false) → line_of order (x ∷ xs) ≡ x ∷ line_of order xs
   line_front x xs first =

@@ -1,4 +1,4 @@
-ghost use Rattle.std.specs.Prelude.{◌≡◌, ◌≤◌, ◌<◌, ◌^◌, ◌+◌, ℕ, List, [], ◌∷◌, length, reverse, min, IsTrue, IfOk, IfErr, OnOk};
+ghost use Rattle.std.specs.Prelude.{◌≡◌, ◌≤◌, ◌<◌, ◌^◌, ◌+◌, ℕ, [], ◌∷◌, length, reverse, min, IsTrue, IfOk, IfErr, OnOk};
 ghost use Rattle.metric_laws.specs.Counts.{next_count, CountsUpTo};
 ghost use Rattle.metric_laws.specs.Space.{bound};
 ghost use Rattle.scan_model.specs.Scan.{range_hits};
@@ -6,7 +6,7 @@ ghost use Rattle.scan_model.specs.declared.query.Query.TheVariants.{Range};
 ghost use Rattle.tree_shape.specs.Tree.{IsSoundTree, points_by_id};
 ghost use Rattle.page_store.specs.Reading.{nodes_of};
 ghost use Rattle.page_store.specs.Shelf.{Shelf, HoldsSame, HasPageCause, IsPassing};
-ghost use Rattle.log_model.specs.Walk.{search_at, root_need};
+ghost use Rattle.log_model.specs.Walk.{search_at};
 ghost use Rattle.log_model.specs.Met.{tagged_by};
 ghost use Rattle.range_search.specs.Searched.{IsUnderWay, HasWalkCause, IsFound};
 

@@ -1,11 +1,10 @@
 -- A cursor that is opened, and one that gives its next hits.
-use Rattle.std.proofs.Common.{◌≡◌, ℕ, ◌+◌, ◌≤◌, ◌<◌, ◌==◌, Bool, true, false, List, [], ◌∷◌, ◌++◌, ◌^◌, inl, inr, length, map, drop, take, get_or, min, refl, sym, ap, subst, ◌∙◌, arith, Option, Some, None, Ok}
+use Rattle.std.proofs.Common.{◌≡◌, ℕ, ◌+◌, ◌≤◌, ◌<◌, ◌==◌, Bool, true, false, List, [], ◌∷◌, ◌++◌, ◌^◌, length, map, drop, take, get_or, min, refl, sym, ap, subst, ◌∙◌, arith, Option, Some, None, Ok}
 use Rattle.std.specs.Prelude.{IsTrue, find, set, slice_index_or, nat_lt}
 use Rattle.std.specs.List.{AllByRecursion, AllZip, position}
 use Rattle.std.proofs.lemmas.List.{drop-drop, drop_min, drop-map, length-take, take-map}
-use Rattle.metric_laws.specs.Lists.{IsIn}
 use Rattle.metric_laws.specs.Space.{Space, IsSpace}
-use Rattle.metric_laws.proofs.Published.{all_append}
+use Rattle.metric_laws.proofs.Published.{all_append, all_each}
 use Rattle.disk_model.specs.Disk.{DiskState, IsUnchanged}
 use Rattle.scan_model.specs.declared.hit.Hit.{Hit}
 use Rattle.scan_model.specs.Scan.{nearest_hits}
@@ -214,10 +213,6 @@ unnamed_closed s index bytes pinned opened number none stand = record {
 
 -- ---- a cursor more
 
-all_of_in : {X : Type 0} (P : X → Type 0) (xs : List X) → ((x : X) → IsIn x xs → P x) → AllByRecursion P xs
-all_of_in P [] each = tt
-all_of_in P (x ∷ xs) each = (each x (inl refl), all_of_in P xs (λ y i. each y (inr i)))
-
 -- the cursor stands for one over all objects
 module _ {M : Type 0} (s : Space) (old new : OpenIndex M) (before after : DiskState) (pinned0 pinned1 : PinnedCursors) (opened : OpenCursors) (q : List ℕ) (c : PinnedCursor) (goes : GoesOn s old before pinned0 opened)
     (reads : OnlyReads old.file new.file before after) (guarded : (generation : ℕ) (tree : List ℕ) → GuardsPages generation tree old → GuardsPages generation tree new)
@@ -242,7 +237,7 @@ module _ {M : Type 0} (s : Space) (old new : OpenIndex M) (before after : DiskSt
         (λ page i. (λ j. nodes_of (reading (head j).dim old.file.live.pages (reads.same.same_bytes j)) page));
     guarded = subst (λ (o : OpenCursor). GuardsPages o.live.generation (live_pages nodes o.live) new) (sym begins)
         (guards goes.sound.0 (live_pages nodes old.file.live)
-        (all_of_in (IsReached nodes old.file.live.root) (live_pages nodes old.file.live) (λ page i. ((whole s nodes old.file.live goes.sound.1).reached page).0 i)));
+        (all_each (IsReached nodes old.file.live.root) (live_pages nodes old.file.live) (λ page i. ((whole s nodes old.file.live goes.sound.1).reached page).0 i)));
     stands = starts s nodes space goes.sound.1 is_point;
     hits = subst (λ (o : OpenCursor). nearest_hits s (points_by_id nodes old.file.live) q (length (points_by_id nodes old.file.live)) ≡ rest_of s nodes o) (sym begins)
         (ap (λ (k : ℕ). nearest_hits s (points_by_id nodes old.file.live) q k) (length-points (objects nodes old.file.live) 0 old.file.live.count));

@@ -4,7 +4,7 @@ use Rattle.std.specs.Prelude.{IsTrue, MatchOption, map}
 use Rattle.std.specs.List.{AllByRecursion}
 use Rattle.metric_laws.specs.Lists.{IsIn}
 use Rattle.metric_laws.specs.Space.{Space}
-use Rattle.metric_laws.proofs.Published.{all_in, map-in}
+use Rattle.metric_laws.proofs.Published.{all_in, all_each, map-in}
 use Rattle.disk_model.specs.Disk.{DiskState}
 use Rattle.node_page.specs.Opening.{page_of}
 use Rattle.tree_shape.specs.declared.entry.Node.{Node}
@@ -15,7 +15,7 @@ use Rattle.page_store.specs.declared.pages.PageFault.{PageFault}
 use Rattle.page_store.specs.Reached.{IsReached, StandsOnPages, named_in}
 use Rattle.page_store.specs.Reached.IsReached.{at_root, by_child}
 use Rattle.page_store.specs.Reading.{node_or_none, nodes_of, reading}
-use Rattle.page_store.proofs.Published.{fewer_named, all_each, stand_on_pages, stands_named}
+use Rattle.page_store.proofs.Published.{fewer_named, stand_on_pages, stands_named}
 use Rattle.nearest_search.specs.Walks.{OpensBefore, WalksTo, named_of}
 use Rattle.free_pages.specs.Commits.{IsGuarded}
 use Rattle.free_pages.specs.Keeping.{FreePages}

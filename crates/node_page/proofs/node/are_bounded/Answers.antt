@@ -1,4 +1,4 @@
-use Rattle.std.proofs.Common.{◌≡◌, ◌∙◌, ◌+◌, ◌*◌, ◌&&◌, Bool, nat_le, sym, ap}
+use Rattle.std.proofs.Common.{◌+◌, ◌*◌, nat_le, sym}
 use Rattle.metric_laws.specs.Space.{bound}
 use Rattle.node_page.specs.Bytes.{number_at}
 use Rattle.node_page.proofs.Listing.{all_none, all_more}

@@ -1,5 +1,5 @@
-use Rattle.std.proofs.Common.{◌≡◌, ◌∙◌, ◌+◌, ◌*◌, ◌&&◌, ◌||◌, ℕ, true, false, sym, ap, refl, arith}
-use Rattle.node_page.proofs.Listing.{bounded_at, near_is}
+use Rattle.std.proofs.Common.{◌+◌, ◌*◌, ℕ, true, false, ap, refl}
+use Rattle.node_page.proofs.Listing.{near_is}
 use Rattle.node_page.proofs.node.are_near.Goals as goal
 
 pub returns-then-leaf : goal.returns-then-leaf
