@@ -32,27 +32,10 @@ use Rattle.log_model.specs.Counts.{entry_count}
 use Rattle.log_model.specs.InOrder.{in_order, hit_before}
 use Rattle.log_model.specs.Walk.{Search, WalksBy, AreAllowed, allows_object, allows_subtree, near_ones, needs_of, need_of, hits_of, hit_of, root_need}
 use Rattle.log_model.specs.Sound.{selected, search_for}
-use Rattle.log_model.proofs.Published.{in-in_order, hit_order, Spot, IsSoundSpot, spot_of, objects_of, near_of_sound, same_node, map-append}
-use Rattle.hit_tags.specs.Met.{near_objects, near_pages, with_marks, marked_node, met_from, met, ComesTo}
+use Rattle.log_model.proofs.Published.{in-in_order, hit_order, Spot, IsSoundSpot, spot_of, objects_of, near_of_sound, same_node, map-append, marks_node, marked_is, met_none, near_needs, pages_needed}
+use Rattle.log_model.specs.Met.{near_objects, near_pages, marked_node, met_from, met}
+use Rattle.hit_tags.specs.Comes.{ComesTo}
 use Rattle.hit_tags.specs.Tags.{tags_among, IsOwnTag, met_tags, object_tags, IsShown, HasTagsCause}
-use Rattle.hit_tags.proofs.Following.{marks_node, met_none}
-
--- ---- a marked node
-
-pub marked_is : (nodes : Nodes) (page : ℕ) (r : Record) (node : Node) → marked_node nodes page r ≡ Some node → nodes page ≡ Some node
-marked_is nodes page r node marked = named (r.page == page) marked
-  where
-    counted : (b : Bool) (n : Node) → (if b then Some n else None) ≡ Some node → Some n ≡ Some node
-    counted true n is = is
-    counted false n is = absurd (cc)
-
-    there : (o : Option Node) → with_marks r.marks o ≡ Some node → o ≡ Some node
-    there None is = absurd (cc)
-    there (Some n) is = counted (length r.marks == entry_count n) n is
-
-    named : (b : Bool) → (if b then with_marks r.marks (nodes page) else None) ≡ Some node → nodes page ≡ Some node
-    named true is = there (nodes page) is
-    named false is = absurd (cc)
 
 abbrev pub pages_in : List Spot → List ℕ
 pages_in ps = map (λ p. p.page) ps
@@ -200,20 +183,12 @@ ids_named : (f : Search) (node : Node) (marks : List Mark) → map (λ h. h.id) 
 ids_named f (Leaf es) marks = ids_near f (near_ones es marks)
 ids_named f (Inner level es) marks = refl
 
-pages_near : (f : Search) (es : List InnerEntry) → map (λ n. n.page) (map (need_of f) es) ≡ map (λ e. e.child) es
-pages_near f [] = refl
-pages_near f (e ∷ es) = ap (λ (r : List ℕ). e.child ∷ r) (pages_near f es)
-
-pages_needed : (f : Search) (node : Node) (marks : List Mark) → map (λ n. n.page) (needs_of f node marks) ≡ near_pages node marks
-pages_needed f (Leaf es) marks = refl
-pages_needed f (Inner level es) marks = pages_near f (near_ones es marks)
-
 allowed_long : (f : Search) (above : Option ℕ) (node : Node) (marks : List Mark) → AreAllowed f above node marks → length marks ≡ entry_count node
 allowed_long f above (Leaf es) marks all = AllZip-long (λ e m. IsTrue (allows_object f above e m)) es marks all
 allowed_long f above (Inner level es) marks all = AllZip-long (λ e m. IsTrue (allows_subtree f above e m)) es marks all
 
 -- the ids of the hits that the walk of a sound log names are those of the objects that it meets
-pub walk_ids : (f : Search) (nodes : Nodes) (rs : List Record) (ns : List Need) (hits : List Hit) → WalksBy AreAllowed f nodes ns rs hits → map (λ h. h.id) hits ≡ ids_of (met nodes (map (λ n. n.page) ns) rs)
+pub walk_ids : (f : Search) (nodes : Nodes) (rs : List Record) (ns : List Need) (hits : List Hit) → WalksBy AreAllowed f nodes ns rs hits → map (λ h. h.id) hits ≡ ids_of (met nodes (pages_needed ns) rs)
 walk_ids f nodes [] [] hits walk = ap (λ (hs : List Hit). map (λ h. h.id) hs) walk
 walk_ids f nodes [] (n ∷ ns) hits walk = absurd walk
 walk_ids f nodes (r ∷ rs) [] hits walk = absurd walk
@@ -221,12 +196,10 @@ walk_ids f nodes (r ∷ rs) (n ∷ ns) hits walk =
     let node : Node = walk.0 in
     let marked = marks_node nodes n.page r node walk.2 walk.1 (allowed_long f n.above node r.marks walk.3) in
     let later = walk_ids f nodes rs (needs_of f node r.marks ++ ns) walk.4.0 walk.4.1 in
-    let pages : map (λ n. n.page) (needs_of f node r.marks ++ ns) ≡ near_pages node r.marks ++ map (λ n. n.page) ns =
-    map-append (λ n. n.page) (needs_of f node r.marks) ns ∙ ap (λ (ps : List ℕ). ps ++ map (λ n. n.page) ns) (pages_needed f node r.marks) in
     rw marked (ap (λ (hs : List Hit). map (λ h. h.id) hs) walk.4.2 ∙ map-append (λ h. h.id) (hits_of f node r.marks) walk.4.0
     ∙ ap (λ (is : List ℕ). is ++ map (λ h. h.id) walk.4.0) (ids_named f node r.marks)
-    ∙ ap (λ (is : List ℕ). ids_of (near_objects node r.marks) ++ is) (later ∙ ap (λ (ps : List ℕ). ids_of (met nodes ps rs)) pages)
-    ∙ sym (map-append (λ e. e.id) (near_objects node r.marks) (met nodes (near_pages node r.marks ++ map (λ n. n.page) ns) rs)))
+    ∙ ap (λ (is : List ℕ). ids_of (near_objects node r.marks) ++ is) (later ∙ ap (λ (ps : List ℕ). ids_of (met nodes ps rs)) (sym (near_needs f node r.marks ns)))
+    ∙ sym (map-append (λ e. e.id) (near_objects node r.marks) (met nodes (near_pages node r.marks ++ pages_needed ns) rs)))
 
 in-take : {X : Type 0} (k : ℕ) (xs : List X) (x : X) → IsIn x (take k xs) → IsIn x xs
 in-take zero xs x here = absurd here

@@ -16,17 +16,20 @@ use Rattle.log_model.specs.contracts.marks.Mark.{the_type}
 use denote.Enum.Bare.{sameb}
 use Rattle.log_model.specs.Walk.{near_ones}
 use Rattle.tree_shape.specs.Tree.{tag_of}
-use Rattle.hit_tags.specs.Tags.{tags_among}
-use Rattle.hit_tags.specs.Wanted.{Tagging, held, tag_held, first_tag, TakesIn}
+use Rattle.log_model.specs.declared.tagged.TaggedHit.{TaggedHit}
+use Rattle.log_model.specs.Met.{tagged_of}
+use Rattle.metric_laws.specs.Space.{Space}
+use Rattle.hit_tags.specs.Tags.{tag_among, tags_among}
+use Rattle.hit_tags.specs.Wanted.{Tagging, held, tag_held, leaf_tag, hit_tag, first_tag, TakesIn}
 
 -- ---- what is held
 
-pub first_append : (id : ℕ) (xs ys : List LeafEntry) → first_tag id (xs ++ ys) ≡ option_or (first_tag id xs) (first_tag id ys)
+pub first_append : (id : ℕ) (xs ys : List (ℕ × ℕ)) → first_tag id (xs ++ ys) ≡ option_or (first_tag id xs) (first_tag id ys)
 first_append id [] ys = refl
-first_append id (x ∷ xs) ys = cases (x.id == id) (first_append id xs ys)
+first_append id (x ∷ xs) ys = cases (x.0 == id) (first_append id xs ys)
   where
     cases : (b : Bool) → first_tag id (xs ++ ys) ≡ option_or (first_tag id xs) (first_tag id ys) →
-        (if b then Some x.tag else first_tag id (xs ++ ys)) ≡ option_or (if b then Some x.tag else first_tag id xs) (first_tag id ys)
+        (if b then Some x.1 else first_tag id (xs ++ ys)) ≡ option_or (if b then Some x.1 else first_tag id xs) (first_tag id ys)
     cases true ih = refl
     cases false ih = ih
 
@@ -38,33 +41,33 @@ is_at_same : (k q : ℕ) → is_at (nat_cmp k) q ≡ (k == q)
 is_at_same k q = grind (arith, common_steps, nat_tests)
 
 -- an id that is wanted is held with its first tag; no other
-pub noted : (e : LeafEntry) (old new : Tagging) (t : Option ℕ) → held old e.id ≡ Some t →
-    ((q : ℕ) → held new q ≡ cond (is_at (nat_cmp e.id) q) (Some (option_or t (Some e.tag))) (held old q)) → TakesIn old (e ∷ []) new
-noted e old new t here each id es was = each id ∙ rw is_at_same (cases (e.id == id) refl) ∙ ap Some (sym (first_append id es (e ∷ [])))
+pub noted : (e : ℕ × ℕ) (old new : Tagging) (t : Option ℕ) → held old e.0 ≡ Some t →
+    ((q : ℕ) → held new q ≡ cond (is_at (nat_cmp e.0) q) (Some (option_or t (Some e.1))) (held old q)) → TakesIn old (e ∷ []) new
+noted e old new t here each id ts was = each id ∙ rw is_at_same (cases (e.0 == id) refl) ∙ ap Some (sym (first_append id ts (e ∷ [])))
   where
-    cases : (b : Bool) → (e.id == id) ≡ b → cond b (Some (option_or t (Some e.tag))) (held old id) ≡ Some (option_or (first_tag id es) (if b then Some e.tag else None))
+    cases : (b : Bool) → (e.0 == id) ≡ b → cond b (Some (option_or t (Some e.1))) (held old id) ≡ Some (option_or (first_tag id ts) (if b then Some e.1 else None))
     cases true is =
-        let same : e.id ≡ id = grind (arith, nat_tests) in
-        let one : Some t ≡ Some (first_tag id es) = sym here ∙ ap (held old) same ∙ was in
-        let both : t ≡ first_tag id es = cc in
-        ap (λ (o : Option ℕ). Some (option_or o (Some e.tag))) both
-    cases false is = was ∙ ap Some (sym (or_none (first_tag id es)))
+        let same : e.0 ≡ id = grind (arith, nat_tests) in
+        let one : Some t ≡ Some (first_tag id ts) = sym here ∙ ap (held old) same ∙ was in
+        let both : t ≡ first_tag id ts = cc in
+        ap (λ (o : Option ℕ). Some (option_or o (Some e.1))) both
+    cases false is = was ∙ ap Some (sym (or_none (first_tag id ts)))
 
-pub not_noted : (e : LeafEntry) (old : Tagging) → held old e.id ≡ None → TakesIn old (e ∷ []) old
-not_noted e old none id es was = was ∙ ap Some (sym (or_none (first_tag id es))) ∙ ap (λ (o : Option ℕ). Some (option_or (first_tag id es) o)) (sym (cases (e.id == id) refl)) ∙ ap Some (sym (first_append id es (e ∷ [])))
+pub not_noted : (e : ℕ × ℕ) (old : Tagging) → held old e.0 ≡ None → TakesIn old (e ∷ []) old
+not_noted e old none id ts was = was ∙ ap Some (sym (or_none (first_tag id ts))) ∙ ap (λ (o : Option ℕ). Some (option_or (first_tag id ts) o)) (sym (cases (e.0 == id) refl)) ∙ ap Some (sym (first_append id ts (e ∷ [])))
   where
-    cases : (b : Bool) → (e.id == id) ≡ b → (if b then Some e.tag else None) ≡ None
+    cases : (b : Bool) → (e.0 == id) ≡ b → (if b then Some e.1 else None) ≡ None
     cases true is =
-        let same : e.id ≡ id = grind (arith, nat_tests) in
-        let one : None ≡ Some (first_tag id es) = sym none ∙ ap (held old) same ∙ was in
+        let same : e.0 ≡ id = grind (arith, nat_tests) in
+        let one : None ≡ Some (first_tag id ts) = sym none ∙ ap (held old) same ∙ was in
         absurd (cc)
     cases false is = refl
 
 pub takes_none : (old : Tagging) → TakesIn old [] old
-takes_none old id es was = was ∙ ap (λ (os : List LeafEntry). Some (first_tag id os)) (sym (append-nil es))
+takes_none old id ts was = was ∙ ap (λ (us : List (ℕ × ℕ)). Some (first_tag id us)) (sym (append-nil ts))
 
-pub takes_both : (old mid new : Tagging) (xs ys : List LeafEntry) → TakesIn old xs mid → TakesIn mid ys new → TakesIn old (xs ++ ys) new
-takes_both old mid new xs ys one two id es was = two id (es ++ xs) (one id es was) ∙ ap (λ (os : List LeafEntry). Some (first_tag id os)) (append_assoc es xs ys)
+pub takes_both : (old mid new : Tagging) (xs ys : List (ℕ × ℕ)) → TakesIn old xs mid → TakesIn mid ys new → TakesIn old (xs ++ ys) new
+takes_both old mid new xs ys one two id ts was = two id (ts ++ xs) (one id ts was) ∙ ap (λ (us : List (ℕ × ℕ)). Some (first_tag id us)) (append_assoc ts xs ys)
 
 -- ---- one entry and its mark
 
@@ -127,17 +130,46 @@ wanted_more (x ∷ xs) (suc i) h d old new low is each all =
     kept false was = was
 
 -- the tags that are held at the end
-pub tags_held : (hits : List Hit) (start now : Tagging) (objects : List LeafEntry) → AllByRecursion (λ h. held start h.id ≡ Some None) hits → TakesIn start objects now →
-    map (λ h. tag_held (held now h.id)) hits ≡ tags_among objects hits
-tags_held [] start now objects all taken = refl
-tags_held (h ∷ hs) start now objects all taken =
-    ap (λ (tag : ℕ). tag ∷ map (λ h. tag_held (held now h.id)) hs) (ap tag_held (taken h.id [] all.0) ∙ first_is h.id objects)
-    ∙ ap (λ (tags : List ℕ). tag_of h.id objects ∷ tags) (tags_held hs start now objects all.1 taken)
+
+-- where each id's entry gives what is wanted of it, all do
+tags_held : (hits : List Hit) (start now : Tagging) (ts : List (ℕ × ℕ)) (tag : ℕ → ℕ) → ((id : ℕ) → tag_held (Some (first_tag id ts)) ≡ tag id) → AllByRecursion (λ h. held start h.id ≡ Some None) hits →
+    TakesIn start ts now → map (λ h. tag_held (held now h.id)) hits ≡ map (λ h. tag h.id) hits
+tags_held [] start now ts tag same all taken = refl
+tags_held (h ∷ hs) start now ts tag same all taken =
+    ap (λ (t : ℕ). t ∷ map (λ h. tag_held (held now h.id)) hs) (ap tag_held (taken h.id [] all.0) ∙ same h.id)
+    ∙ ap (λ (tags : List ℕ). tag h.id ∷ tags) (tags_held hs start now ts tag same all.1 taken)
+
+leaf_first : (id : ℕ) (es : List LeafEntry) → tag_held (Some (first_tag id (map leaf_tag es))) ≡ tag_of id es
+leaf_first id [] = refl
+leaf_first id (e ∷ es) = cases (e.id == id) (leaf_first id es)
   where
-    first_is : (id : ℕ) (es : List LeafEntry) → tag_held (Some (first_tag id es)) ≡ tag_of id es
-    first_is id [] = refl
-    first_is id (e ∷ es) = cases (e.id == id) (first_is id es)
-      where
-        cases : (b : Bool) → tag_held (Some (first_tag id es)) ≡ tag_of id es → tag_held (Some (if b then Some e.tag else first_tag id es)) ≡ (if b then e.tag else tag_of id es)
-        cases true ih = refl
-        cases false ih = ih
+    cases : (b : Bool) → tag_held (Some (first_tag id (map leaf_tag es))) ≡ tag_of id es → tag_held (Some (if b then Some e.tag else first_tag id (map leaf_tag es))) ≡ (if b then e.tag else tag_of id es)
+    cases true ih = refl
+    cases false ih = ih
+
+hit_first : (id : ℕ) (ts : List TaggedHit) → tag_held (Some (first_tag id (map hit_tag ts))) ≡ tag_among id ts
+hit_first id [] = refl
+hit_first id (t ∷ ts) = cases (t.hit.id == id) (hit_first id ts)
+  where
+    cases : (b : Bool) → tag_held (Some (first_tag id (map hit_tag ts))) ≡ tag_among id ts → tag_held (Some (if b then Some t.tag else first_tag id (map hit_tag ts))) ≡ (if b then t.tag else tag_among id ts)
+    cases true ih = refl
+    cases false ih = ih
+
+-- the tags of objects, and of hits
+pub leaf_tags_held : (hits : List Hit) (start now : Tagging) (es : List LeafEntry) → AllByRecursion (λ h. held start h.id ≡ Some None) hits → TakesIn start (map leaf_tag es) now →
+    map (λ h. tag_held (held now h.id)) hits ≡ tags_among es hits
+leaf_tags_held hits start now es = tags_held hits start now (map leaf_tag es) (λ id. tag_of id es) (λ id. leaf_first id es)
+
+pub hit_tags_held : (hits : List Hit) (start now : Tagging) (ts : List TaggedHit) → AllByRecursion (λ h. held start h.id ≡ Some None) hits → TakesIn start (map hit_tag ts) now →
+    map (λ h. tag_held (held now h.id)) hits ≡ map (λ h. tag_among h.id ts) hits
+hit_tags_held hits start now ts = tags_held hits start now (map hit_tag ts) (λ id. tag_among id ts) (λ id. hit_first id ts)
+
+-- hits that were made of objects have their tags
+pub same_tags : (s : Space) (q : List ℕ) (es : List LeafEntry) (hits : List Hit) → map (λ h. tag_among h.id (map (tagged_of s q) es)) hits ≡ tags_among es hits
+same_tags s q es [] = refl
+same_tags s q es (h ∷ hs) =
+    ap (λ (tag : ℕ). tag ∷ map (λ h. tag_among h.id (map (tagged_of s q) es)) hs) (same h.id es) ∙ ap (λ (tags : List ℕ). tag_of h.id es ∷ tags) (same_tags s q es hs)
+  where
+    same : (id : ℕ) (os : List LeafEntry) → tag_among id (map (tagged_of s q) os) ≡ tag_of id os
+    same id [] = refl
+    same id (o ∷ os) = ap (λ (tag : ℕ). if o.id == id then o.tag else tag) (same id os)

@@ -1,5 +1,4 @@
-pub mod Met
-pub mod Costs
+pub mod Comes
 pub mod Tags
 pub mod Wanted
 pub mod Steps

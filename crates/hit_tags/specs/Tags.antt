@@ -1,5 +1,5 @@
 -- The tags of a query's hits, and why there may be none.
-use Rattle.std.specs.Prelude.{◌≡◌, ◌⊎◌, ℕ, List, [], ◌∷◌, map, IsTrue, slice_index_or}
+use Rattle.std.specs.Prelude.{◌≡◌, ◌⊎◌, ℕ, List, [], ◌∷◌, map, IsTrue, slice_index_or, if◌then◌else◌, ◌==◌}
 use Rattle.metric_laws.specs.Space.{Space}
 use Rattle.scan_model.specs.declared.hit.Hit.{Hit}
 use Rattle.tree_shape.specs.declared.entry.LeafEntry.{LeafEntry}
@@ -11,8 +11,15 @@ use Rattle.page_store.specs.Reading.{nodes_of}
 use Rattle.page_store.specs.Shelf.{Shelf, HasPageCause}
 use Rattle.log_model.specs.declared.logs.Found.{Found}
 use Rattle.log_model.specs.declared.marks.Record.{Record}
+use Rattle.log_model.specs.declared.tagged.TaggedHit.{TaggedHit}
+use Rattle.log_model.specs.Met.{met}
 use Rattle.log_model.specs.Sound.{IsSoundLog}
-use Rattle.hit_tags.specs.Met.{met, ComesTo}
+use Rattle.hit_tags.specs.Comes.{ComesTo}
+
+-- the tag of the first of these hits that has the id, or 0 where none has it
+abbrev pub tag_among : ℕ → List TaggedHit → ℕ
+tag_among id [] = 0
+tag_among id (t ∷ ts) = if t.hit.id == id then t.tag else tag_among id ts
 
 -- for each hit the tag of the first object with its id, or 0 where no object has it
 abbrev pub tags_among : List LeafEntry → List Hit → List ℕ

@@ -1,8 +1,8 @@
-//! Finds the tags of a query's hits by the walk of its log.
+//! Finds the tags of a query's hits: by what the search met, or by the walk of its log.
 #![tactic(auto)]
 
 mod tagging;
 mod walking;
 mod wanted;
 
-pub use tagging::{marked_tags, tags_of};
+pub use tagging::{found_tags, tags_of};

@@ -6,11 +6,10 @@ ghost use Rattle.page_store.specs.Shelf.{HoldsSame};
 ghost use Rattle.metric_laws.specs.Counts.{CountsUpTo};
 ghost use Rattle.log_model.specs.Counts.{entry_count};
 ghost use Rattle.log_model.specs.Walk.{near_ones};
-ghost use Rattle.hit_tags.specs.Met.{AreMarked, met, near_objects, near_pages};
-ghost use Rattle.hit_tags.specs.Costs.{has_near, passes_over, most_asked};
+ghost use Rattle.log_model.specs.Met.{met, near_objects, near_pages};
 ghost use Rattle.hit_tags.specs.Tags.{HasTagsCause};
 ghost use Rattle.log_model.specs.declared.marks.Record.{Record};
-ghost use Rattle.hit_tags.specs.Wanted.{held, TakesIn};
+ghost use Rattle.hit_tags.specs.Wanted.{held, leaf_tag, TakesIn};
 ghost use Rattle.hit_tags.specs.Steps.{HasFollowed};
 
 use crate::wanted::Wanted;
@@ -31,11 +30,12 @@ pub struct Walk {
 
 // Notes the objects that are marked Near.
 fn note_near(wanted: &mut Wanted, entries: &LeafEntries, marks: &[Mark])
-    ensures { TakesIn wanted.old (near_ones entries.now marks.now) wanted.new }
+    ensures { TakesIn wanted.old (map leaf_tag (near_ones entries.now marks.now)) wanted.new }
 {
     for index in 0..entries.len().min(marks.len()) {
         if marks[index] == Mark::Near {
-            wanted.note(entries.at(index));
+            let object = entries.at(index);
+            wanted.note(object.id, object.tag);
         }
     }
 }
@@ -53,25 +53,6 @@ fn push_near(stack: &mut Vec<u32>, entries: &InnerEntries, marks: &[Mark]) -> Re
     Ok(())
 }
 
-// Returns whether some entry is marked Near. The loop looks at all marks, so that LLVM makes it wide.
-fn has_near(marks: &[Mark]) -> bool
-    ensures { result ≡ has_near marks.now }
-{
-    let mut near = false;
-    for mark in marks {
-        near |= *mark == Mark::Near;
-    }
-    near
-}
-
-// Returns whether a walk passes over a record with these marks. It does where the log is known to mark each node that the walk
-// reaches, and nothing is marked Near.
-fn passes_over(are_marked: bool, marks: &[Mark]) -> bool
-    ensures { result ≡ passes_over are_marked marks.now }
-{
-    are_marked && !has_near(marks)
-}
-
 impl Walk {
     /// Makes a walk that needs the root and has met none of the hits' ids.
     pub fn begin(alloc: Global, root: u32, hits: &[Hit]) -> Result<Self, AllocError>
@@ -87,7 +68,7 @@ impl Walk {
     // Notes the objects of a node that are marked Near, and puts the pages of its subtrees that are marked Near on top of the stack.
     fn take_node(&mut self, node: &Node, marks: &[Mark]) -> Result<(), AllocError>
         requires { length marks.now ≡ entry_count node.now }
-        ensures objects { OnOk result (TakesIn self.old.wanted (near_objects node.now marks.now) self.new.wanted) }
+        ensures objects { OnOk result (TakesIn self.old.wanted (map leaf_tag (near_objects node.now marks.now)) self.new.wanted) }
         ensures pages { OnOk result (reverse self.new.stack.items ≡ near_pages node.now marks.now ++ reverse self.old.stack.items) }
     {
         match node {
@@ -131,39 +112,23 @@ impl Walk {
         Ok(true)
     }
 
-    // Passes over the next needed page.
-    fn pass(&mut self)
-        ensures next { (page : ℕ) (rest : List ℕ) → reverse self.old.stack.items ≡ page ∷ rest → reverse self.new.stack.items ≡ rest }
-        ensures wanted { self.new.wanted ≡ self.old.wanted }
-    {
-        self.stack.pop();
-    }
-
-    /// Follows the records as far as the walk goes. Where they mark each node that the walk reaches, a page without a Near mark is
-    /// not opened, since nothing of it is met or needed.
+    /// Follows the records as far as the walk goes.
     pub fn follow_all<P: Pages>(
         &mut self,
         alloc: Global,
         pages: &mut P,
         records: &[Record],
-        are_marked: bool,
     ) -> Result<(), PageFault>
-        requires marked { are_marked ≡ true → IsTrue (P.shelf pages.old).is_known →
-            AreMarked (nodes_of (P.shelf pages.old).read) (reverse self.old.stack.items) records.now }
         ensures same { HoldsSame (P.shelf pages.old) (P.shelf pages.new) }
         ensures keeps { P.keeps pages.old pages.new }
-        ensures asked { CountsUpTo (P.shelf pages.old).asked (P.shelf pages.new).asked (most_asked are_marked records.now) }
-        ensures reads { (P.shelf pages.new).reads ≤ (P.shelf pages.old).reads + most_asked are_marked records.now }
+        ensures asked { CountsUpTo (P.shelf pages.old).asked (P.shelf pages.new).asked (length records.now) }
+        ensures reads { (P.shelf pages.new).reads ≤ (P.shelf pages.old).reads + length records.now }
         ensures no_fault { OnOk result ((P.shelf pages.new).faults ≡ (P.shelf pages.old).faults) }
-        ensures ok { OnOk result (IsTrue (P.shelf pages.old).is_known →
-            TakesIn self.old.wanted (met (nodes_of (P.shelf pages.old).read) (reverse self.old.stack.items) records.now) self.new.wanted) }
+        ensures ok { OnOk result (IsTrue (P.shelf pages.old).is_known → TakesIn self.old.wanted
+            (map leaf_tag (met (nodes_of (P.shelf pages.old).read) (reverse self.old.stack.items) records.now)) self.new.wanted) }
         ensures cause { IfErr result (HasTagsCause (P.shelf pages.old) (P.shelf pages.new) (reverse self.old.stack.items) records.now) }
     {
         for told in records {
-            if passes_over(are_marked, told.marks.as_slice()) {
-                self.pass();
-                continue;
-            }
             if !self.follow(alloc, pages, told)? {
                 return Ok(());
             }

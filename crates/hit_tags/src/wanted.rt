@@ -1,13 +1,11 @@
 ghost use Rattle.std.specs.Prelude.{◌≡◌, ◌∷◌, [], map, Some, None, IfOk};
 ghost use Rattle.std.specs.List.{AllByRecursion};
-ghost use Rattle.tree_shape.specs.Entries.{leaf_of};
 ghost use Rattle.hit_tags.specs.Wanted.{Tagging, held, tag_held, TakesIn};
 
 use scan_model::Hit;
 use std::alloc::{AllocError, Global};
 use std::collections::BTreeMap;
 use std::marker::Model;
-use tree_shape::LeafRef;
 
 /// The ids of the hits, each with the tag of the first object with this id, once one was met.
 #[derive(Drop)]
@@ -33,12 +31,12 @@ impl Wanted {
         Ok(Wanted { tags })
     }
 
-    /// Notes an object that was met.
-    pub fn note(&mut self, object: LeafRef)
-        ensures { TakesIn self.old (leaf_of object.entry ∷ []) self.new }
+    /// Notes the tag of the object `id`, which was met.
+    pub fn note(&mut self, id: u32, tag: u64)
+        ensures { TakesIn self.old ((id, tag) ∷ []) self.new }
     {
-        if let Some(tag) = self.tags.get_mut(&object.id) {
-            *tag = tag.or(Some(object.tag));
+        if let Some(first) = self.tags.get_mut(&id) {
+            *first = first.or(Some(tag));
         }
     }
 

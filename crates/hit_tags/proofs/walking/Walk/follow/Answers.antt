@@ -2,7 +2,8 @@ use Rattle.std.proofs.Common.{◌≡◌, ◌∙◌, ◌∷◌, length, reverse, 
 use Rattle.std.proofs.lemmas.Grind.{common_steps}
 use Rattle.page_store.specs.Reading.{nodes_of, node_or_none}
 use Rattle.log_model.specs.Counts.{entry_count}
-use Rattle.hit_tags.proofs.Following.{upto_once, goes_on, marks_node}
+use Rattle.log_model.proofs.Published.{marks_node}
+use Rattle.hit_tags.proofs.Following.{upto_once, goes_on}
 use Rattle.hit_tags.proofs.walking.Walk.follow.Goals as goal
 
 pub returns-then-marks-entry_count-clause-asked : goal.returns-then-marks-entry_count-clause-asked
