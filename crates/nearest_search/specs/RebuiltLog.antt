@@ -18,7 +18,7 @@ abbrev pub IsStopped : Sheets → Live → List Record → List Need → Type 0
 IsStopped kept live records [] = Unit {0}
 IsStopped kept live records (n ∷ ns) = (length records ≡ live.pages) ⊎ (kept n.page n.above ≡ None)
 
--- for all nodes that what is kept was seen of, a walk with the least marks at the radius reaches this state, and meets these objects
+-- for all nodes that what is kept was seen of, a walk with the least marks at the radius reaches this state, and has met these objects
 abbrev pub IsWalk : ℕ → Sheets → ℕ → List Record → List TaggedHit → List Need → Type 0
 IsWalk rho kept root records tagged left =
     (s : Space) (q : List ℕ) (nodes : Nodes) → AreSeenOf s q rho nodes kept →

@@ -25,9 +25,9 @@ use tree_shape::Live;
 /// A page that holds no node is `Bad`. A page below 3 or not below the number of pages is `Outside`. Where as many nodes were
 /// opened as the file has pages and one more is to be opened, that one is `Repeats`. None of these comes on a sound tree.
 /// `Disk` comes where the disk failed.
-/// Clauses: what is asked of the caller (`point`, `few_pages`, `some`); the answer (`log`, `nearest`, `front`, `tagged`); what stays (`metric`,
-/// `same`, `keeps`); the cost (`asked`, `reads`, `measured`, `few_measured`); the cause of an error (`cause`, `sound`); faults of the
-/// devices (`no_fault`).
+/// Clauses: what is asked of the caller (`point`, `few_pages`, `some`); the answer (`log`, `nearest`, `front`, `tagged`); what
+/// stays (`metric`, `same`, `keeps`); the cost (`asked`, `reads`, `measured`, `few_measured`); the cause of an error (`cause`,
+/// `sound`); faults of the devices (`no_fault`).
 pub fn nearest<P: Pages, R: Ruler>(
     alloc: Global,
     pages: &mut P,
