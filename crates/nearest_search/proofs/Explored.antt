@@ -427,5 +427,5 @@ rebuilding_steps rho kept root one other n rest seen top few is mid records tagg
         subst (λ (l : List Need). ReachesBy AreLeast f nodes (root_need root ∷ []) one.records.items (hits_among one.tagged.items) l) top walk.0 in (
           rw (rs, hs, ns) (reaches_more AreLeast f nodes (root_need root ∷ []) one.records.items (hits_among one.tagged.items) n rest node.0 marks node.1 refl so_far),
           ts ∙ ap (λ (l : List TaggedHit). l ++ met) walk.1 ∙ sym (tagged_more f nodes n rest node.0 node.1 root one.records.items (hits_among one.tagged.items) so_far)
-          ∙ ap (tagged_by s q nodes root) (sym rs),
+              ∙ ap (tagged_by s q nodes root) (sym rs),
         )
