@@ -7,7 +7,6 @@ use Rattle.metric_laws.specs.Space.{Space, IsSpace}
 use Rattle.metric_laws.specs.Counts.{next_count, count_up}
 use Rattle.metric_laws.specs.Lists.{IsIn}
 use Rattle.metric_laws.proofs.Published.{all_append, in-map, in-append, in-append_right}
-use Rattle.scan_model.specs.declared.hit.Hit.{Hit}
 use Rattle.scan_model.specs.declared.query.Query.{Query}
 use Rattle.scan_model.specs.declared.query.Query.TheVariants.{Nearest}
 use Rattle.tree_shape.specs.declared.live.Live.{Live}
@@ -25,6 +24,7 @@ use Rattle.log_model.specs.declared.marks.Mark.{Mark}
 use Rattle.log_model.specs.declared.marks.Mark.TheVariants.{Skip, Far, Near}
 use Rattle.log_model.specs.declared.marks.Record.{Record}
 use Rattle.log_model.specs.declared.marks.Need.{Need}
+use Rattle.log_model.specs.declared.tagged.TaggedHit.{TaggedHit}
 use Rattle.log_model.specs.declared.traversal.Traversal.{Traversal}
 use Rattle.log_model.specs.Counts.{entry_count}
 use Rattle.log_model.specs.Grammar.{IsValidQuery}
@@ -32,12 +32,13 @@ use Rattle.log_model.specs.Sound.{IsLogOf, IsLeastLog, selected, search_for}
 use Rattle.log_model.specs.Laws.{scan_answers}
 use Rattle.log_model.specs.Steps.{TakesNode}
 use Rattle.log_model.specs.Walk.{Search, search_at, AreLeast, WalksBy, ReachesBy, least_marks, near_ones, hits_of, needs_of, record_of, root_need}
-use Rattle.log_model.proofs.Published.{valid_log, sound_complete, least_sound, count_up_more, reaches_more}
+use Rattle.log_model.specs.Met.{near_objects, tagged_of, hits_among, tagged_by}
+use Rattle.log_model.proofs.Published.{valid_log, sound_complete, least_sound, count_up_more, reaches_more, tagged_more, hits_more}
 use Rattle.nearest_search.specs.declared.pending.Pending.{Pending}
 use Rattle.nearest_search.specs.Counts.{IsRadius}
 use Rattle.nearest_search.specs.Queue.{IsNext}
 use Rattle.nearest_search.specs.declared.seen.Sight.{Sight}
-use Rattle.nearest_search.specs.Seeing.{Seen, Objects, Subtrees, IsSeenOf, count_of, sights, mark_at, is_near, seen_near, hit_seen, need_seen, hits_seen, marks_seen, record_seen}
+use Rattle.nearest_search.specs.Seeing.{Seen, Objects, Subtrees, IsSeenOf, count_of, sights, mark_at, is_near, seen_near, tagged_seen, need_seen, tagged_near, marks_seen, record_seen}
 use Rattle.nearest_search.specs.Keeping.{Sheets, IsKept, AreSeenOf, IsFew, KeepsFew}
 use Rattle.nearest_search.specs.Machine.{pending_root, pending_of, pendings_of, dists_of, entries_in, entries_of}
 use Rattle.nearest_search.specs.Opened.{State, Takes, IsOpened}
@@ -265,28 +266,29 @@ module _ (s : Space) (axioms : IsSpace s) (old : Shelf) (live : Live) (q : List 
         omega arith
 
   -- the log that is written at the end
-  pub nearest_log : 1 ≤ k → live.pages ≤ 2 ^ 24 → (kept : Sheets) (rho : ℕ) (records : List Record) (hits : List Hit) → IsRebuiltLog rho kept live records hits → (found : Found) →
-      found.log.generation ≡ live.generation → found.log.root ≡ live.root → found.log.query ≡ Nearest q k → found.log.records ≡ records → found.log.answers ≡ selected (Nearest q k) hits → found.hits ≡ found.log.answers →
+  pub nearest_log : 1 ≤ k → live.pages ≤ 2 ^ 24 → (kept : Sheets) (rho : ℕ) (records : List Record) (tagged : List TaggedHit) → IsRebuiltLog rho kept live records tagged → (found : Found) →
+      found.log.generation ≡ live.generation → found.log.root ≡ live.root → found.log.query ≡ Nearest q k → found.log.records ≡ records → found.log.answers ≡ selected (Nearest q k) (hits_among tagged) → found.hits ≡ found.log.answers →
       IsLogOf live (Nearest q k) found
-  nearest_log some few kept rho records hits logged found generation root query are answers same =
+  nearest_log some few kept rho records tagged logged found generation root query are answers same =
       let few_hits = logged.few_hits in
+      let long = length-map tagged (λ (t : TaggedHit). t.hit) in
       let few_records = logged.few in
       record {
         hits_are = same;
         generation_is = generation;
         root_is = root;
         query_is = query;
-        valid = valid_log found.log hits
+        valid = valid_log found.log (hits_among tagged)
             (subst IsValidQuery (sym query) (record { some = rw (axioms.long q q_fits) axioms.some_coordinates; few = rw (axioms.long q q_fits) axioms.few_coordinates }, some))
             (rw query answers) (omega arith) (rw are (omega arith)) (rw are logged.few_marks);
       }
 
-  pub nearest_ends : 1 ≤ k → (now : Shelf) (state : State) (rho opened : ℕ) → IsExplored s old now live q k state rho opened used → (records : List Record) (hits : List Hit) → IsRebuiltLog rho state.kept live records hits →
-      (found : Found) → found.log.records ≡ records → found.log.answers ≡ selected (Nearest q k) hits → IsLogOf live (Nearest q k) found →
+  pub nearest_ends : 1 ≤ k → (now : Shelf) (state : State) (rho opened : ℕ) → IsExplored s old now live q k state rho opened used → (records : List Record) (tagged : List TaggedHit) → IsRebuiltLog rho state.kept live records tagged →
+      (found : Found) → found.log.records ≡ records → found.log.answers ≡ selected (Nearest q k) (hits_among tagged) → IsLogOf live (Nearest q k) found →
       IsTrue old.is_known → IsSoundTree s (nodes_of old.read) live → IsNearest s (nodes_of old.read) live q k old now found
-  nearest_ends some now state rho opened explored records hits logged found are answers named is_known sound =
-      let end = ends s axioms (nodes_of old.read) live q q_fits k sound some state.kept state.queue state.best explored.exploring.pages (explored.exploring.holds is_known sound) rho explored.radius explored.beyond hits records logged.left
-      (logged.walk s q (nodes_of old.read) (explored.exploring.agrees is_known rho explored.radius)) logged.ends in
+  nearest_ends some now state rho opened explored records tagged logged found are answers named is_known sound =
+      let end = ends s axioms (nodes_of old.read) live q q_fits k sound some state.kept state.queue state.best explored.exploring.pages (explored.exploring.holds is_known sound) rho explored.radius explored.beyond (hits_among tagged) records logged.left
+      (logged.walk s q (nodes_of old.read) (explored.exploring.agrees is_known rho explored.radius)).0 logged.ends in
       let long : length found.log.records ≡ opened = ap length are ∙ end.1 ∙ explored.exploring.long in
       let search : search_at s q rho ≡ search_for s found.log.query found.log.answers =
       ap (search_at s q) (sym end.2) ∙ (λ i. search_for s (sym named.query_is i) (sym answers i)) in
@@ -296,9 +298,9 @@ module _ (s : Space) (axioms : IsSpace s) (old : Shelf) (live : Live) (q : List 
           generation_is = named.generation_is;
           root_is = named.root_is;
           point_fits = rw named.query_is q_fits;
-          hits = hits;
-          walk = subst (λ (g : Search). WalksBy AreLeast g (nodes_of old.read) (root_need live.root ∷ []) found.log.records hits) search
-              (subst (λ (rs : List Record). WalksBy AreLeast (search_at s q rho) (nodes_of old.read) (root_need live.root ∷ []) rs hits) (sym are) end.0);
+          hits = hits_among tagged;
+          walk = subst (λ (g : Search). WalksBy AreLeast g (nodes_of old.read) (root_need live.root ∷ []) found.log.records (hits_among tagged)) search
+              (subst (λ (rs : List Record). WalksBy AreLeast (search_at s q rho) (nodes_of old.read) (root_need live.root ∷ []) rs (hits_among tagged)) (sym are) end.0);
           answers_are = rw named.query_is answers;
         },
       ) in
@@ -312,30 +314,30 @@ module _ (s : Space) (axioms : IsSpace s) (old : Shelf) (live : Live) (q : List 
       }
 
   -- on a sound tree at most one distance was computed for each entry that the log marks
-  pub nearest_spent : 1 ≤ k → (now : Shelf) (state : State) (rho opened : ℕ) → IsExplored s old now live q k state rho opened used → (records : List Record) (hits : List Hit) → IsRebuiltLog rho state.kept live records hits →
+  pub nearest_spent : 1 ≤ k → (now : Shelf) (state : State) (rho opened : ℕ) → IsExplored s old now live q k state rho opened used → (records : List Record) (tagged : List TaggedHit) → IsRebuiltLog rho state.kept live records tagged →
       (found : Found) → found.log.records ≡ records → IsTrue old.is_known → IsSoundTree s (nodes_of old.read) live → state.used ≤ used + marks_in found.log.records
-  nearest_spent some now state rho opened explored records hits logged found are is_known sound =
-      let end = ends s axioms (nodes_of old.read) live q q_fits k sound some state.kept state.queue state.best explored.exploring.pages (explored.exploring.holds is_known sound) rho explored.radius explored.beyond hits records logged.left
-      (logged.walk s q (nodes_of old.read) (explored.exploring.agrees is_known rho explored.radius)) logged.ends in
+  nearest_spent some now state rho opened explored records tagged logged found are is_known sound =
+      let end = ends s axioms (nodes_of old.read) live q q_fits k sound some state.kept state.queue state.best explored.exploring.pages (explored.exploring.holds is_known sound) rho explored.radius explored.beyond (hits_among tagged) records logged.left
+      (logged.walk s q (nodes_of old.read) (explored.exploring.agrees is_known rho explored.radius)).0 logged.ends in
       let spent = explored.exploring.spent is_known in
       rw are (let entries = end.3 in omega arith)
 
   -- on any tree the log is a front of the walk, with the root's record
-  pub nearest_front : (now : Shelf) (state : State) (rho opened : ℕ) → IsExplored s old now live q k state rho opened used → (records : List Record) (hits : List Hit) →
-      IsRebuiltLog rho state.kept live records hits → (found : Found) → found.log.records ≡ records → found.log.answers ≡ selected (Nearest q k) hits → IsTrue old.is_known →
+  pub nearest_front : (now : Shelf) (state : State) (rho opened : ℕ) → IsExplored s old now live q k state rho opened used → (records : List Record) (tagged : List TaggedHit) →
+      IsRebuiltLog rho state.kept live records tagged → (found : Found) → found.log.records ≡ records → found.log.answers ≡ selected (Nearest q k) (hits_among tagged) → IsTrue old.is_known →
       IsFront s (nodes_of old.read) live q k found
-  nearest_front now state rho opened explored records hits logged found are answers is_known = record {
+  nearest_front now state rho opened explored records tagged logged found are answers is_known = record {
     rho = rho;
-    hits = hits;
+    hits = hits_among tagged;
     left = logged.left;
-    walk = subst (λ (rs : List Record). ReachesBy AreLeast (search_at s q rho) (nodes_of old.read) (root_need live.root ∷ []) rs hits logged.left) (sym are)
+    walk = subst (λ (rs : List Record). ReachesBy AreLeast (search_at s q rho) (nodes_of old.read) (root_need live.root ∷ []) rs (hits_among tagged) logged.left) (sym are)
         walked;
     some = rw are (root_opened records logged.left walked logged.ends);
     answers_are = answers;
   }
     where
-      walked : ReachesBy AreLeast (search_at s q rho) (nodes_of old.read) (root_need live.root ∷ []) records hits logged.left
-      walked = logged.walk s q (nodes_of old.read) (explored.exploring.agrees is_known rho explored.radius)
+      walked : ReachesBy AreLeast (search_at s q rho) (nodes_of old.read) (root_need live.root ∷ []) records (hits_among tagged) logged.left
+      walked = (logged.walk s q (nodes_of old.read) (explored.exploring.agrees is_known rho explored.radius)).0
 
       beyond_root : IsIn (pending_root live.root) state.queue → ⊥
       beyond_root waits = let b : rho < 0 = explored.beyond (pending_root live.root) waits in omega arith
@@ -343,7 +345,7 @@ module _ (s : Space) (axioms : IsSpace s) (old : Shelf) (live : Live) (q : List 
       root_kept : (1 ≤ opened) × IsKept state.kept live.root None
       root_kept = elim explored.exploring.begun [ inl w ↦ w | inr waits ↦ absurd (beyond_root waits) ]
 
-      root_opened : (rs : List Record) (left : List Need) → ReachesBy AreLeast (search_at s q rho) (nodes_of old.read) (root_need live.root ∷ []) rs hits left → IsStopped state.kept live rs left → 1 ≤ length rs
+      root_opened : (rs : List Record) (left : List Need) → ReachesBy AreLeast (search_at s q rho) (nodes_of old.read) (root_need live.root ∷ []) rs (hits_among tagged) left → IsStopped state.kept live rs left → 1 ≤ length rs
       root_opened (r ∷ rs) left walk stopped = omega arith
       root_opened [] left walk stopped =
           elim (subst (IsStopped state.kept live []) walk.1 stopped) [
@@ -351,22 +353,29 @@ module _ (s : Space) (axioms : IsSpace s) (old : Shelf) (live : Live) (q : List 
             | inr none ↦ absurd (let some = root_kept.1.1 in cc)
           ]
 
+  -- the log's walk meets what the search keeps with tags
+  pub nearest_tagged : (now : Shelf) (state : State) (rho opened : ℕ) → IsExplored s old now live q k state rho opened used → (records : List Record) (tagged : List TaggedHit) →
+      IsRebuiltLog rho state.kept live records tagged → (found : Found) → found.log.records ≡ records → found.tagged ≡ tagged → IsTrue old.is_known →
+      found.tagged ≡ tagged_by s q (nodes_of old.read) live.root found.log.records
+  nearest_tagged now state rho opened explored records tagged logged found are same is_known =
+      same ∙ (logged.walk s q (nodes_of old.read) (explored.exploring.agrees is_known rho explored.radius)).1 ∙ ap (tagged_by s q (nodes_of old.read) live.root) (sym are)
+
 -- the walk over what is kept
 
-pub rebuilding_begins : (rho : ℕ) (kept : Sheets) (root : ℕ) (rs : List Record) (hits : List Hit) (stack : List Need) → rs ≡ [] → hits ≡ [] → stack ≡ root_need root ∷ [] → IsRebuilding rho kept root rs hits (reverse stack)
-rebuilding_begins rho kept root rs hits stack none no_hits one = rw (none, no_hits, one) (record { walk = λ s q nodes seen. (refl, refl); few_marks = tt; few_hits = omega arith })
+pub rebuilding_begins : (rho : ℕ) (kept : Sheets) (root : ℕ) (rs : List Record) (tagged : List TaggedHit) (stack : List Need) → rs ≡ [] → tagged ≡ [] → stack ≡ root_need root ∷ [] → IsRebuilding rho kept root rs tagged (reverse stack)
+rebuilding_begins rho kept root rs tagged stack none no_hits one = rw (none, no_hits, one) (record { walk = λ s q nodes seen. ((refl, refl), refl); few_marks = tt; few_hits = omega arith })
 
 -- what was seen of a node is taken in as the node would be
 takes_node : (s : Space) (q : List ℕ) (rho : ℕ) (n : Need) (node : Node) (seen : Seen) (old new : Traversal) → IsSeenOf s q rho n.above node seen → TakesSeen rho n seen old new → TakesNode (search_at s q rho) n node old new
 takes_node s q rho n (Leaf es) (Objects count xs) old new is takes = record {
-  hits = takes.hits ∙ ap (λ (hs : List Hit). old.hits.items ++ hs) (ap (λ (l : List Sight). map hit_seen (seen_near rho l)) is.3 ∙ objects_named s q rho is.0 is.1 n.above es);
+  tagged = takes.tagged ∙ ap (λ (ts : List TaggedHit). old.tagged.items ++ ts) (ap (λ (l : List Sight). map tagged_seen (seen_near rho l)) is.3 ∙ objects_named s q rho is.0 is.1 n.above es);
   records = takes.records ∙ ap (λ (ms : List Mark). old.records.items ++ record { page = n.page; marks = ms } ∷ []) ((λ i. marks_seen rho (is.2 i) (is.3 i)) ∙ objects_marked s q rho is.0 is.1 n.above es);
   needs = takes.needs;
 }
 takes_node s q rho n (Leaf es) (Subtrees count xs) old new is takes = absurd is
 takes_node s q rho n (Inner level es) (Objects count xs) old new is takes = absurd is
 takes_node s q rho n (Inner level es) (Subtrees count xs) old new is takes = record {
-  hits = takes.hits;
+  tagged = takes.tagged;
   records = takes.records ∙ ap (λ (ms : List Mark). old.records.items ++ record { page = n.page; marks = ms } ∷ []) ((λ i. marks_seen rho (is.2 i) (is.3 i)) ∙ subtrees_marked s q rho is.0 is.1 n.above es);
   needs = takes.needs ∙ ap (λ (ns : List Need). ns ++ reverse old.stack.items) (ap (λ (l : List Sight). map need_seen (seen_near rho l)) is.3 ∙ subtrees_needed s q rho is.0 is.1 n.above es);
 }
@@ -379,37 +388,44 @@ few_near rho (x ∷ xs) = cases (is_near (mark_at rho x)) (few_near rho xs)
     cases true ih = omega arith
     cases false ih = omega arith
 
-few_named : (rho : ℕ) (seen : Seen) → length (hits_seen rho seen) ≤ length (sights seen)
-few_named rho (Objects count xs) = let few = few_near rho xs in let same = length-map (seen_near rho xs) hit_seen in omega arith
+few_named : (rho : ℕ) (seen : Seen) → length (tagged_near rho seen) ≤ length (sights seen)
+few_named rho (Objects count xs) = let few = few_near rho xs in let same = length-map (seen_near rho xs) tagged_seen in omega arith
 few_named rho (Subtrees count xs) = omega arith
 
 pub rebuilding_steps : (rho : ℕ) (kept : Sheets) (root : ℕ) (one other : Traversal) (n : Need) (rest : List Need) (seen : Seen) → reverse one.stack.items ≡ n ∷ rest → KeepsFew kept → kept n.page n.above ≡ Some seen →
-    (mid : Traversal) → mid.records.items ≡ one.records.items → mid.hits.items ≡ one.hits.items → reverse mid.stack.items ≡ rest → TakesSeen rho n seen mid other →
-    IsRebuilding rho kept root one.records.items one.hits.items (reverse one.stack.items) → IsRebuilding rho kept root other.records.items other.hits.items (reverse other.stack.items)
-rebuilding_steps rho kept root one other n rest seen top few is mid records hits left takes before =
+    (mid : Traversal) → mid.records.items ≡ one.records.items → mid.tagged.items ≡ one.tagged.items → reverse mid.stack.items ≡ rest → TakesSeen rho n seen mid other →
+    IsRebuilding rho kept root one.records.items one.tagged.items (reverse one.stack.items) → IsRebuilding rho kept root other.records.items other.tagged.items (reverse other.stack.items)
+rebuilding_steps rho kept root one other n rest seen top few is mid records tagged left takes before =
     let rs : other.records.items ≡ one.records.items ++ record_seen rho n.page seen ∷ [] = takes.records ∙ ap (λ (l : List Record). l ++ record_seen rho n.page seen ∷ []) records in
-    let hs : other.hits.items ≡ one.hits.items ++ hits_seen rho seen = takes.hits ∙ ap (λ (l : List Hit). l ++ hits_seen rho seen) hits in
+    let ts : other.tagged.items ≡ one.tagged.items ++ tagged_near rho seen = takes.tagged ∙ ap (λ (l : List TaggedHit). l ++ tagged_near rho seen) tagged in
     let entries = few n.page n.above seen is in
     let few_marks : length (marks_seen rho (count_of seen) (sights seen)) ≤ 32 = omega (arith, entries.few, length-marks rho (count_of seen) (sights seen)) in
-    let named : length (hits_seen rho seen) ≤ 32 = omega (arith, few_named rho seen, entries.few, entries.no_more) in
+    let named : length (tagged_near rho seen) ≤ 32 = omega (arith, few_named rho seen, entries.few, entries.no_more) in
     let long = length-append one.records.items (record_seen rho n.page seen ∷ []) in
-    let more = length-append one.hits.items (hits_seen rho seen) in
+    let more = length-append one.tagged.items (tagged_near rho seen) in
     let b = before.few_hits in
     record {
       walk = λ s q nodes are. walks s q nodes (before.walk s q nodes are) (are n.page n.above seen is);
       few_marks = rw rs (all_append (λ (r : Record). length r.marks ≤ 32) one.records.items (record_seen rho n.page seen ∷ []) before.few_marks (few_marks, tt));
-      few_hits = rw (rs, hs) (omega arith);
+      few_hits = rw (rs, ts) (omega arith);
     }
   where
-    walks : (s : Space) (q : List ℕ) (nodes : Nodes) → ReachesBy AreLeast (search_at s q rho) nodes (root_need root ∷ []) one.records.items one.hits.items (reverse one.stack.items) →
+    walks : (s : Space) (q : List ℕ) (nodes : Nodes) →
+        ReachesBy AreLeast (search_at s q rho) nodes (root_need root ∷ []) one.records.items (hits_among one.tagged.items) (reverse one.stack.items) × (one.tagged.items ≡ tagged_by s q nodes root one.records.items) →
         (node : Node) × (nodes n.page ≡ Some node) × IsSeenOf s q rho n.above node seen →
-        ReachesBy AreLeast (search_at s q rho) nodes (root_need root ∷ []) other.records.items other.hits.items (reverse other.stack.items)
+        ReachesBy AreLeast (search_at s q rho) nodes (root_need root ∷ []) other.records.items (hits_among other.tagged.items) (reverse other.stack.items) × (other.tagged.items ≡ tagged_by s q nodes root other.records.items)
     walks s q nodes walk node =
         let f : Search = search_at s q rho in
+        let marks : List Mark = least_marks f n.above node.0 in
+        let met : List TaggedHit = map (tagged_of s q) (near_objects node.0 marks) in
         let taken : TakesNode f n node.0 mid other = takes_node s q rho n node.0 seen mid other node.2 takes in
         let rs : other.records.items ≡ one.records.items ++ record_of f n node.0 ∷ [] = taken.records ∙ ap (λ (l : List Record). l ++ record_of f n node.0 ∷ []) records in
-        let hs : other.hits.items ≡ one.hits.items ++ hits_of f node.0 (least_marks f n.above node.0) = taken.hits ∙ ap (λ (l : List Hit). l ++ hits_of f node.0 (least_marks f n.above node.0)) hits in
-        let ns : reverse other.stack.items ≡ needs_of f node.0 (least_marks f n.above node.0) ++ rest = taken.needs ∙ ap (λ (l : List Need). needs_of f node.0 (least_marks f n.above node.0) ++ l) left in
-        rw (rs, hs, ns)
-        (reaches_more AreLeast f nodes (root_need root ∷ []) one.records.items one.hits.items n rest node.0 (least_marks f n.above node.0) node.1 refl
-        (subst (λ (l : List Need). ReachesBy AreLeast f nodes (root_need root ∷ []) one.records.items one.hits.items l) top walk))
+        let ts : other.tagged.items ≡ one.tagged.items ++ met = taken.tagged ∙ ap (λ (l : List TaggedHit). l ++ met) tagged in
+        let hs : hits_among other.tagged.items ≡ hits_among one.tagged.items ++ hits_of f node.0 marks = hits_more f node.0 marks one.tagged.items other.tagged.items ts in
+        let ns : reverse other.stack.items ≡ needs_of f node.0 marks ++ rest = taken.needs ∙ ap (λ (l : List Need). needs_of f node.0 marks ++ l) left in
+        let so_far : ReachesBy AreLeast f nodes (root_need root ∷ []) one.records.items (hits_among one.tagged.items) (n ∷ rest) =
+        subst (λ (l : List Need). ReachesBy AreLeast f nodes (root_need root ∷ []) one.records.items (hits_among one.tagged.items) l) top walk.0 in (
+          rw (rs, hs, ns) (reaches_more AreLeast f nodes (root_need root ∷ []) one.records.items (hits_among one.tagged.items) n rest node.0 marks node.1 refl so_far),
+          ts ∙ ap (λ (l : List TaggedHit). l ++ met) walk.1 ∙ sym (tagged_more f nodes n rest node.0 node.1 root one.records.items (hits_among one.tagged.items) so_far)
+              ∙ ap (tagged_by s q nodes root) (sym rs),
+        )

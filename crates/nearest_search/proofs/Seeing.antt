@@ -10,11 +10,12 @@ use Rattle.tree_shape.specs.declared.entry.LeafEntry.{LeafEntry}
 use Rattle.tree_shape.specs.declared.entry.InnerEntry.{InnerEntry}
 use Rattle.log_model.specs.declared.marks.Mark.{Mark}
 use Rattle.log_model.specs.declared.marks.Mark.TheVariants.{Skip, Far, Near}
-use Rattle.log_model.specs.Walk.{Search, search_at, away, parent_skips, is_skipped, least_for_object, least_for_subtree, leaf_marks, inner_marks, leaf_hits, inner_needs, near_ones, hit_of, need_of}
+use Rattle.log_model.specs.Walk.{Search, search_at, away, parent_skips, is_skipped, least_for_object, least_for_subtree, leaf_marks, inner_marks, inner_needs, near_ones, hit_of, need_of}
+use Rattle.log_model.specs.Met.{tagged_of, leaf_tagged}
 use Rattle.nearest_search.specs.declared.seen.Sight.{Sight}
 use Rattle.nearest_search.specs.Machine.{pending_of}
 use Rattle.nearest_search.specs.Opened.{leaf_dists, inner_pendings}
-use Rattle.nearest_search.specs.Seeing.{skip_of, object_sight, subtree_sight, sights_from, objects_seen, subtrees_seen, mark_at, put_mark, marked_by, marks_seen, seen_near, hit_seen, need_seen, Objects, Subtrees}
+use Rattle.nearest_search.specs.Seeing.{skip_of, object_sight, subtree_sight, sights_from, objects_seen, subtrees_seen, mark_at, put_mark, marked_by, marks_seen, seen_near, tagged_seen, need_seen, Objects, Subtrees}
 use Rattle.nearest_search.specs.Keeping.{IsFew}
 
 less_less : (rho radius d : ℕ) → nat_lt rho (d - radius) ≡ nat_lt (rho + radius) d
@@ -174,10 +175,10 @@ module _ (s : Space) (q : List ℕ) (rho r : ℕ) (low : rho ≤ r) (above : Opt
   pub objects_marked : (es : List LeafEntry) → marks_seen rho (length es) (objects_seen (search_at s q r) above 0 es) ≡ leaf_marks (search_at s q rho) above es
   objects_marked es = marked (λ e. is_skipped (search_at s q r) above e.parent 0) (object_sight (search_at s q r) above) (λ place e. refl) rho (least_for_object (search_at s q rho) above) object_out object_mark es
 
-  pub objects_named : (es : List LeafEntry) → map hit_seen (seen_near rho (objects_seen (search_at s q r) above 0 es)) ≡ leaf_hits (search_at s q rho) above es
+  pub objects_named : (es : List LeafEntry) → map tagged_seen (seen_near rho (objects_seen (search_at s q r) above 0 es)) ≡ leaf_tagged (search_at s q rho) above es
   objects_named es =
       named (λ e. is_skipped (search_at s q r) above e.parent 0) (object_sight (search_at s q r) above) (λ place e. refl) rho (least_for_object (search_at s q rho) above) object_out object_mark
-      hit_seen (hit_of (search_at s q rho)) (λ place e. refl) 0 es
+      tagged_seen (tagged_of s q) (λ place e. refl) 0 es
 
   subtree_out : (e : InnerEntry) → is_skipped (search_at s q r) above e.parent e.radius ≡ true → least_for_subtree (search_at s q rho) above e ≡ Skip
   subtree_out e skip = rw (lower rho r low above e.parent e.radius skip) refl

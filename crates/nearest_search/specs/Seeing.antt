@@ -2,7 +2,6 @@
 use Rattle.std.specs.Prelude.{◌≡◌, ℕ, suc, ◌-◌, ◌≤◌, Bool, true, false, List, [], ◌∷◌, map, filter, length, replicate, slice_set, Option, Some, None, if◌then◌else◌, nat_lt}
 use Rattle.metric_laws.specs.Space.{Space}
 use Rattle.metric_laws.specs.Pruning.{gap}
-use Rattle.scan_model.specs.declared.hit.Hit.{Hit}
 use Rattle.tree_shape.specs.declared.entry.LeafEntry.{LeafEntry}
 use Rattle.tree_shape.specs.declared.entry.InnerEntry.{InnerEntry}
 use Rattle.tree_shape.specs.declared.entry.Node.{Node}
@@ -11,6 +10,7 @@ use Rattle.log_model.specs.declared.marks.Mark.{Mark}
 use Rattle.log_model.specs.declared.marks.Mark.TheVariants.{Skip, Far, Near}
 use Rattle.log_model.specs.declared.marks.Need.{Need}
 use Rattle.log_model.specs.declared.marks.Record.{Record}
+use Rattle.log_model.specs.declared.tagged.TaggedHit.{TaggedHit}
 use Rattle.log_model.specs.Walk.{Search, away, is_skipped, search_at}
 use Rattle.nearest_search.specs.declared.seen.Sight.{Sight}
 use Rattle.nearest_search.specs.declared.seen.Sheet.{Sheet}
@@ -30,10 +30,10 @@ skip_of (Some above) stored radius = gap above stored - radius
 
 -- what a search sees of an object or a subtree at a place of its node
 abbrev pub object_sight : Search → Option ℕ → ℕ → LeafEntry → Sight
-object_sight f above place e = record { place = place; name = e.id; skip = skip_of above e.parent 0; far = away f e.point; dist = away f e.point }
+object_sight f above place e = record { place = place; name = e.id; skip = skip_of above e.parent 0; far = away f e.point; dist = away f e.point; tag = e.tag }
 
 abbrev pub subtree_sight : Search → Option ℕ → ℕ → InnerEntry → Sight
-subtree_sight f above place e = record { place = place; name = e.child; skip = skip_of above e.parent e.radius; far = away f e.point - e.radius; dist = away f e.point }
+subtree_sight f above place e = record { place = place; name = e.child; skip = skip_of above e.parent e.radius; far = away f e.point - e.radius; dist = away f e.point; tag = 0 }
 
 -- the sights of the entries that are not skipped; the first entry stands at a place
 abbrev pub sights_from : {X : Type 0} → (X → Bool) → (ℕ → X → Sight) → ℕ → List X → List Sight
@@ -67,12 +67,12 @@ abbrev pub marked_by : ℕ → List Mark → List Sight → List Mark
 marked_by rho marks [] = marks
 marked_by rho marks (x ∷ xs) = marked_by rho (put_mark marks x.place (mark_at rho x)) xs
 
--- the sights that are marked Near at a radius, and what they are to the log: hits, and needed pages
+-- the sights that are marked Near at a radius, and what they are to the log: hits with their tags, and needed pages
 abbrev pub seen_near : ℕ → List Sight → List Sight
 seen_near rho xs = filter (λ x. is_near (mark_at rho x)) xs
 
-abbrev pub hit_seen : Sight → Hit
-hit_seen x = record { id = x.name; dist = x.dist }
+abbrev pub tagged_seen : Sight → TaggedHit
+tagged_seen x = record { hit = record { id = x.name; dist = x.dist }; tag = x.tag }
 
 abbrev pub need_seen : Sight → Need
 need_seen x = record { page = x.name; above = Some x.dist }
@@ -103,9 +103,9 @@ abbrev pub sights : Seen → List Sight
 sights (Objects count xs) = xs
 sights (Subtrees count xs) = xs
 
-abbrev pub hits_seen : ℕ → Seen → List Hit
-hits_seen rho (Objects count xs) = map hit_seen (seen_near rho xs)
-hits_seen rho (Subtrees count xs) = []
+abbrev pub tagged_near : ℕ → Seen → List TaggedHit
+tagged_near rho (Objects count xs) = map tagged_seen (seen_near rho xs)
+tagged_near rho (Subtrees count xs) = []
 
 abbrev pub needs_seen : ℕ → Seen → List Need
 needs_seen rho (Objects count xs) = []

@@ -34,7 +34,7 @@ pub struct Span {
 /// The room for openings that is taken at once: most searches of small files and many of large ones open no more pages.
 const SOME_OPENINGS: usize = 112;
 
-/// The sights of a block, of 32 KiB.
+/// The sights of a block, of 40 KiB.
 const BLOCK: usize = 1024;
 
 /// What was seen at each opening of a page. Sights stand in blocks, so that few openings take memory of their own, and no sight is

@@ -1,27 +1,28 @@
 //! Writes the log of a search.
 
 ghost use Rattle.std.specs.Prelude.{◌≡◌, ◌++◌, ◌<◌, [], ◌∷◌, All, map, reverse, IfOk, OnOk};
-ghost use Rattle.nearest_search.specs.Seeing.{marks_seen, seen_near, seen_on, hit_seen, need_seen};
+ghost use Rattle.nearest_search.specs.Seeing.{marks_seen, seen_near, seen_on, tagged_seen, need_seen};
 ghost use Rattle.nearest_search.specs.Keeping.{kept_seen, IsFew, KeepsFew, SpansFit};
 ghost use Rattle.nearest_search.specs.RebuiltLog.{TakesSeen, IsRebuiltLog};
 
 use crate::kept::{Kept, Turn};
 use crate::seen::{Sheet, Sight};
-use log_model::{Mark, Need, NodeMarks, Record, Traversal};
+use log_model::{Mark, Need, NodeMarks, Record, TaggedHit, Traversal};
 use scan_model::Hit;
 use std::alloc::{AllocError, Global};
 use tree_shape::Live;
 
-// Returns the least marks of a leaf of `count` objects at the radius `rho`, and appends the objects that are marked Near to `hits`.
+// Returns the least marks of a leaf of `count` objects at the radius `rho`, and appends the objects that are marked Near
+// to `tagged`.
 fn mark_objects(
     alloc: Global,
-    hits: &mut Vec<Hit>,
+    tagged: &mut Vec<TaggedHit>,
     rho: u64,
     count: usize,
     sights: &[Sight],
 ) -> Result<NodeMarks, AllocError>
     requires { All (λ x. x.place < count) sights.now }
-    ensures hits { OnOk result (hits.new.items ≡ hits.old.items ++ map hit_seen (seen_near rho sights.now)) }
+    ensures tagged { OnOk result (tagged.new.items ≡ tagged.old.items ++ map tagged_seen (seen_near rho sights.now)) }
     ensures marks { IfOk result (λ marks. marks ≡ marks_seen rho count sights.now) }
 {
     let mut marks = NodeMarks::all_skipped(alloc, count)?;
@@ -32,9 +33,12 @@ fn mark_objects(
             Mark::Far => marks.set(sight.place as usize, Mark::Far),
             Mark::Near => {
                 marks.set(sight.place as usize, Mark::Near);
-                hits.push(Hit {
-                    id: sight.name,
-                    dist: sight.dist,
+                tagged.push(TaggedHit {
+                    hit: Hit {
+                        id: sight.name,
+                        dist: sight.dist,
+                    },
+                    tag: sight.tag,
                 })?;
             }
         }
@@ -102,7 +106,7 @@ fn take_seen(
 {
     match sheet {
         Sheet::Objects { count, sights } => {
-            let marks = mark_objects(alloc, &mut walk.hits, rho, count, sights)?;
+            let marks = mark_objects(alloc, &mut walk.tagged, rho, count, sights)?;
             push_record(&mut walk.records, need.page, marks)
         }
         Sheet::Subtrees { count, sights } => {
@@ -123,7 +127,7 @@ pub fn rebuild_log(
 ) -> Result<Traversal, AllocError>
     requires fits { SpansFit kept.now }
     requires few { KeepsFew (kept_seen kept.now) }
-    ensures { IfOk result (λ walk. IsRebuiltLog rho (kept_seen kept.now) live.now walk.records.items walk.hits.items) }
+    ensures { IfOk result (λ walk. IsRebuiltLog rho (kept_seen kept.now) live.now walk.records.items walk.tagged.items) }
 {
     let mut walk = Traversal::begin(alloc, live.root)?;
     let mut opened = 0u32;

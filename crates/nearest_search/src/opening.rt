@@ -53,6 +53,7 @@ pub fn note_leaf<R: Ruler>(
             skip,
             far: dist,
             dist,
+            tag: entry.tag,
         })?;
         if dist <= probe.rho {
             best.keep(dist)?;
@@ -93,6 +94,7 @@ pub fn queue_inner<R: Ruler>(
             skip,
             far,
             dist,
+            tag: 0,
         })?;
         if far <= probe.rho {
             frontier.add(Pending {

@@ -5,6 +5,7 @@ ghost use Rattle.page_store.specs.Reading.{nodes_of};
 ghost use Rattle.page_store.specs.Shelf.{HoldsSame, IsPassing};
 ghost use Rattle.metric_laws.specs.Counts.{CountsUpTo};
 ghost use Rattle.log_model.specs.Sound.{IsLogOf};
+ghost use Rattle.log_model.specs.Met.{tagged_by};
 ghost use Rattle.nearest_search.specs.Searched.{HasNearestCause, IsFront, IsFrugal, IsNearest, marks_in};
 
 use crate::exploring::explore;
@@ -24,9 +25,9 @@ use tree_shape::Live;
 /// A page that holds no node is `Bad`. A page below 3 or not below the number of pages is `Outside`. Where as many nodes were
 /// opened as the file has pages and one more is to be opened, that one is `Repeats`. None of these comes on a sound tree.
 /// `Disk` comes where the disk failed.
-/// Clauses: what is asked of the caller (`point`, `few_pages`, `some`); the answer (`log`, `nearest`, `front`); what stays (`metric`,
-/// `same`, `keeps`); the cost (`asked`, `reads`, `measured`, `few_measured`); the cause of an error (`cause`, `sound`); faults of the
-/// devices (`no_fault`).
+/// Clauses: what is asked of the caller (`point`, `few_pages`, `some`); the answer (`log`, `nearest`, `front`, `tagged`); what
+/// stays (`metric`, `same`, `keeps`); the cost (`asked`, `reads`, `measured`, `few_measured`); the cause of an error (`cause`,
+/// `sound`); faults of the devices (`no_fault`).
 pub fn nearest<P: Pages, R: Ruler>(
     alloc: Global,
     pages: &mut P,
@@ -49,6 +50,10 @@ pub fn nearest<P: Pages, R: Ruler>(
         (P.shelf pages.new) found) }
     ensures front { IfOk result (λ found. IsTrue (P.shelf pages.old).is_known →
         IsFront (R.M.space (R.metric ruler.old)) (nodes_of (P.shelf pages.old).read) live.now q.now k found) }
+    // The objects that the log's walk meets, with their tags.
+    ensures tagged { IfOk result (λ found. IsTrue (P.shelf pages.old).is_known →
+        found.tagged ≡ tagged_by (R.M.space (R.metric ruler.old)) q.now (nodes_of (P.shelf pages.old).read) live.now.root
+        found.log.records) }
     ensures cause { IfErr result (HasNearestCause live.now (P.shelf pages.old) (P.shelf pages.new)) }
     // Whatever the result, at most as many pages are asked for, and read, as the file has.
     ensures asked { CountsUpTo (P.shelf pages.old).asked (P.shelf pages.new).asked live.now.pages }

@@ -19,6 +19,8 @@ pub struct Sight {
     pub far: u64,
     /// The entry's distance.
     pub dist: u64,
+    /// The object's tag, and 0 for a subtree.
+    pub tag: u64,
 }
 
 /// What is known of an opened node: the number of its entries, and the sights of those whose distances were computed, in the node's

@@ -17,7 +17,7 @@ loop-need-preserved c =
       low = omega arith;
       walk = rebuilding_steps c.args.rho (kept_seen c.args.kept.now) c.args.live.now.root c.loop-need.walk c.take_seen.new.walk
           c.in-Some.need (reverse c.pop.new.self.items) (seen_on c.in-Some-get.sheet) stack c.requires.few (search rules)
-          (record { hits = c.loop-need.walk.hits; records = c.loop-need.walk.records; stack = c.pop.new.self }) refl refl refl c.in_ok-take_seen.ensures c.loop-need.invariant.walk;
+          (record { tagged = c.loop-need.walk.tagged; records = c.loop-need.walk.records; stack = c.pop.new.self }) refl refl refl c.in_ok-take_seen.ensures c.loop-need.invariant.walk;
     }
 
 pub returns-then-opened-live : goal.returns-then-opened-live
@@ -25,7 +25,7 @@ returns-then-opened-live c =
     let stack : reverse c.loop-need.walk.stack.items ≡ c.in-Some.need ∷ reverse c.pop.new.self.items = grind (arith, common_steps, c.in-Some.ensures.items) in
     record {
       left = c.in-Some.need ∷ reverse c.pop.new.self.items;
-      walk = subst (λ (ns : List Need). IsWalk c.args.rho (kept_seen c.args.kept.now) c.args.live.now.root c.loop-need.walk.records.items c.loop-need.walk.hits.items ns) stack c.loop-need.invariant.walk.walk;
+      walk = subst (λ (ns : List Need). IsWalk c.args.rho (kept_seen c.args.kept.now) c.args.live.now.root c.loop-need.walk.records.items c.loop-need.walk.tagged.items ns) stack c.loop-need.invariant.walk.walk;
       ends = inl (sym c.loop-need.invariant.count ∙ c.if-opened-live.true);
       few = (let n = c.loop-need.invariant.count in let low = c.loop-need.invariant.low in omega arith);
       few_marks = c.loop-need.invariant.walk.few_marks;
@@ -37,7 +37,7 @@ returns-in_default-get c =
     let stack : reverse c.loop-need.walk.stack.items ≡ c.in-Some.need ∷ reverse c.pop.new.self.items = grind (arith, common_steps, c.in-Some.ensures.items) in
     record {
       left = c.in-Some.need ∷ reverse c.pop.new.self.items;
-      walk = subst (λ (ns : List Need). IsWalk c.args.rho (kept_seen c.args.kept.now) c.args.live.now.root c.loop-need.walk.records.items c.loop-need.walk.hits.items ns) stack c.loop-need.invariant.walk.walk;
+      walk = subst (λ (ns : List Need). IsWalk c.args.rho (kept_seen c.args.kept.now) c.args.live.now.root c.loop-need.walk.records.items c.loop-need.walk.tagged.items ns) stack c.loop-need.invariant.walk.walk;
       ends = inr (sym c.get.ensures ∙ ap (option_map seen_on) c.in_default-get.is);
       few = (let n = c.loop-need.invariant.count in let low = c.loop-need.invariant.low in omega arith);
       few_marks = c.loop-need.invariant.walk.few_marks;

@@ -7,7 +7,7 @@ abbrev pub invariant-loop-need : goal.invariant-loop-need
 invariant-loop-need l = record {
   count : l.opened ≡ length l.walk.records.items;
   low : l.opened ≤ l.live.pages;
-  walk : IsRebuilding l.rho (kept_seen l.kept) l.live.root l.walk.records.items l.walk.hits.items (reverse l.walk.stack.items);
+  walk : IsRebuilding l.rho (kept_seen l.kept) l.live.root l.walk.records.items l.walk.tagged.items (reverse l.walk.stack.items);
 }
 
 abbrev pub decreases-loop-need : goal.decreases-loop-need

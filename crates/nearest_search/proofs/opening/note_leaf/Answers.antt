@@ -58,8 +58,8 @@ loop-at-preserved g c =
     let is : e ≡ get_or es at e = c.at-entry.ensures ∙ ap (λ (l : List LeafEntry). get_or l at e) seen.ensures in
     let left : is_skipped f above e.parent 0 ≡ false = ap (λ (o : LeafEntry). is_skipped f above o.parent 0) is ∙ so_far.next e low in
     let dist : d ≡ away f e.point = cc (c.dist-dist.ensures.value, so_far.metric) in
-    let sight : ◌≡◌ {A = Sight} (record { place = at; name = e.id; skip = c.skip_of-skip.result; far = d; dist = d }) (object_sight f above at e) =
-    λ i. record { place = at; name = e.id; skip = c.skip_of-skip.ensures i; far = dist i; dist = dist i } in
+    let sight : ◌≡◌ {A = Sight} (record { place = at; name = e.id; skip = c.skip_of-skip.result; far = d; dist = d; tag = e.tag }) (object_sight f above at e) =
+    λ i. record { place = at; name = e.id; skip = c.skip_of-skip.ensures i; far = dist i; dist = dist i; tag = e.tag } in
     let high : next.result ≤ length es = omega (arith, next.ensures.high, ap length seen.ensures) in
     let out = ruled_out f above (at + 1) next.result seen.result es seen.ensures next.ensures.ruled_out in
     let rest : ℕ → ℕ = λ r. within r (leaf_dists f above (drop (at + 1) es)) in
@@ -92,6 +92,6 @@ loop-at-preserved g c =
       next = left_over f above next.result seen.result es seen.ensures next.ensures.next;
       noted = λ r. subst (λ (ds : List ℕ). min k (within r (heap_items c.if-dist-probe.best.heap) + within r ds) ≡ all r) (dists_passed f above es (at + 1) next.result next.ensures.low high out) (kept.1 r);
       seen = objects_passed f above es (at + 1) next.result next.ensures.low high out c.push.new.self.items (c.args.seen.now.items ++ objects_seen f above 0 es)
-          (object_seen f above es at e low is left c.loop-at.seen.items c.push.new.self.items (c.args.seen.now.items ++ objects_seen f above 0 es) (record { place = at; name = e.id; skip = c.skip_of-skip.result; far = d; dist = d }) sight
+          (object_seen f above es at e low is left c.loop-at.seen.items c.push.new.self.items (c.args.seen.now.items ++ objects_seen f above 0 es) (record { place = at; name = e.id; skip = c.skip_of-skip.result; far = d; dist = d; tag = e.tag }) sight
           c.in_ok-push.ensures.items so_far.seen);
     }

@@ -63,8 +63,8 @@ loop-at-preserved g c =
     let left : is_skipped f above e.parent e.radius ≡ false = ap (λ (o : InnerEntry). is_skipped f above o.parent o.radius) is ∙ so_far.next e low in
     let dist : d ≡ away f e.point = cc (c.dist-dist.ensures.value, so_far.metric) in
     let far_is : far ≡ away f e.point - e.radius = c.saturating_sub-far.ensures ∙ ap (λ (n : ℕ). n - e.radius) dist in
-    let sight : ◌≡◌ {A = Sight} (record { place = at; name = e.child; skip = c.skip_of-skip.result; far = far; dist = d }) (subtree_sight f above at e) =
-    λ i. record { place = at; name = e.child; skip = c.skip_of-skip.ensures i; far = far_is i; dist = dist i } in
+    let sight : ◌≡◌ {A = Sight} (record { place = at; name = e.child; skip = c.skip_of-skip.result; far = far; dist = d; tag = 0 }) (subtree_sight f above at e) =
+    λ i. record { place = at; name = e.child; skip = c.skip_of-skip.ensures i; far = far_is i; dist = dist i; tag = 0 } in
     let high : next.result ≤ length es = omega (arith, next.ensures.high, ap length seen.ensures) in
     let out = ruled_out f above (at + 1) next.result seen.result es seen.ensures next.ensures.ruled_out in
     let all : List Pending = inner_pendings f above es ++ c.args.frontier.now in
@@ -94,6 +94,6 @@ loop-at-preserved g c =
       next = left_over f above next.result seen.result es seen.ensures next.ensures.next;
       queued = subst (λ (ps : List Pending). IsPermutation all (ps ++ c.if-far-probe.frontier)) (pendings_passed f above es (at + 1) next.result next.ensures.low high out) queued;
       seen = subtrees_passed f above es (at + 1) next.result next.ensures.low high out c.push.new.self.items (c.args.seen.now.items ++ subtrees_seen f above 0 es)
-          (subtree_seen f above es at e low is left c.loop-at.seen.items c.push.new.self.items (c.args.seen.now.items ++ subtrees_seen f above 0 es) (record { place = at; name = e.child; skip = c.skip_of-skip.result; far = far; dist = d }) sight
+          (subtree_seen f above es at e low is left c.loop-at.seen.items c.push.new.self.items (c.args.seen.now.items ++ subtrees_seen f above 0 es) (record { place = at; name = e.child; skip = c.skip_of-skip.result; far = far; dist = d; tag = 0 }) sight
           c.in_ok-push.ensures.items so_far.seen);
     }
