@@ -121,7 +121,7 @@ far_ends old now left most far = (far.0, omega (arith, far.1), far.2)
 
 -- a record that is left costs one more than those behind it
 pub one_left : (rs : List Record) (i : ℕ) → i < length rs → length (drop i rs) ≡ suc (length (drop (i + 1) rs))
-one_left rs i low = length-drop rs i ∙ (let e : length rs - i ≡ suc (length rs - (i + 1)) = omega arith in e) ∙ ap suc (sym (length-drop rs (i + 1)))
+one_left rs i low = length-drop i rs ∙ (let e : length rs - i ≡ suc (length rs - (i + 1)) = omega arith in e) ∙ ap suc (sym (length-drop (i + 1) rs))
 
 pub far_taken : (rs : List Record) (i : ℕ) → i < length rs → (old now new most : ℕ) → SoFar old now (length (drop i rs)) most → CountsUpTo now new 1 → SoFar old new (length (drop (i + 1) rs)) most
 far_taken rs i low old now new most far one = far_next old now new (length (drop (i + 1) rs)) most (subst (λ (n : ℕ). SoFar old now n most) (one_left rs i low) far) one

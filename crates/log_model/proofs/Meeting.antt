@@ -87,7 +87,7 @@ module _ (f : Search) (nodes : Nodes) (n : Need) (left : List Need) (node : Node
       subst (λ (ps : List ℕ). met nodes ps (rs ++ least ∷ []) ≡ met nodes ps rs ++ near) (sym needs) (met_more (needs_of f there r.marks ++ ms) rs walk.4.0 walk.4.1) in
       rw marked (ap (λ (es : List LeafEntry). here ++ es) deep ∙ sym (append_assoc here (met nodes (near_pages there r.marks ++ pages_needed ms) rs) near))
 
-  -- so many more hits with tags
+  -- the hits with tags that one more page adds
   pub tagged_more : (root : ℕ) (rs : List Record) (hits : List Hit) → ReachesBy AreLeast f nodes (root_need root ∷ []) rs hits (n ∷ left) →
       tagged_by f.space f.point nodes root (rs ++ record_of f n node ∷ [])
       ≡ tagged_by f.space f.point nodes root rs ++ map (tagged_of f.space f.point) (near_objects node (least_marks f n.above node))

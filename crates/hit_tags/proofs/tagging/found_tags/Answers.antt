@@ -1,6 +1,6 @@
 use Rattle.std.proofs.Common.{◌≡◌, ◌∙◌, ◌∷◌, [], ap, arith, map, length, List, Some, None, subst}
 use Rattle.std.specs.List.{AllByRecursion}
-use Rattle.std.proofs.Math.ListN.{take_of_length-le}
+use Rattle.std.proofs.lemmas.List.{take_all}
 use Rattle.scan_model.specs.declared.hit.Hit.{Hit}
 use Rattle.log_model.specs.declared.tagged.TaggedHit.{TaggedHit}
 use Rattle.log_model.specs.Met.{met}
@@ -17,7 +17,7 @@ returns-clause-first c =
     let tagged = c.args.found.now.tagged in
     let wanted : AllByRecursion (λ h. held start h.id ≡ Some None) c.args.found.now.hits = subst (AllByRecursion (λ h. held start h.id ≡ Some None)) c.as_slice-hits.ensures c.in_ok-wanted.ensures in
     let taken : TakesIn start (map hit_tag tagged) now =
-    subst (λ (ts : List TaggedHit). TakesIn start (map hit_tag ts) now) (take_of_length-le tagged (omega (arith, c.loop-one-test.false, ap length c.as_slice-one-items.ensures))) c.loop-one.invariant in
+    subst (λ (ts : List TaggedHit). TakesIn start (map hit_tag ts) now) (take_all c.loop-one.one-index tagged (omega (arith, c.loop-one-test.false, ap length c.as_slice-one-items.ensures))) c.loop-one.invariant in
     if_ok c.tags.result
     (λ tags are. are ∙ ap (λ (hs : List Hit). map (λ h. tag_held (held now h.id)) hs) c.as_slice-hits.ensures ∙ hit_tags_held c.args.found.now.hits start now tagged wanted taken) c.tags.ensures
 
