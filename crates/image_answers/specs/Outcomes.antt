@@ -72,7 +72,7 @@ IsMeant s live image c (outcome.Damaged fault) = ⊥
 -- the log of a range query is the least one; the log of a k-NN query is a front of a walk with the least marks
 abbrev pub FollowsWalk : Space → Nodes → Live → Query → Log → Type 0
 FollowsWalk s nodes live (query.Range q r) log = IsLeastLog s nodes live (query.Range q r) log
-FollowsWalk s nodes live (query.Nearest q k) log = IsFront s nodes live q k (record { hits = log.answers; log = log })
+FollowsWalk s nodes live (query.Nearest q k) log = IsFront s nodes live q k log
 
 -- the answer to a query: its log, the hits of the log, and the tags that the walk of the log meets for them
 pub record IsAnswer (s : Space) (live : Live) (image : List ℕ) (asked : Query) (hits : List Hit) (tags : List ℕ) (log : Log) : Type 0 where

@@ -251,7 +251,7 @@ impl<M: Metric> Index<M> {
             (D.state disk.old) (D.state disk.new) result }
         // On any file: the records are a front of a walk with the least marks, and the answers are those that the records name.
         ensures front { IfOk result (λ found. IsTrue (D.state disk.old).is_known →
-            IsFront (M.space self.old.file.metric) (nodes_on self.old.file (D.state disk.old)) self.old.file.live q.now k found) }
+            IsFront (M.space self.old.file.metric) (nodes_on self.old.file (D.state disk.old)) self.old.file.live q.now k found.log) }
         ensures cause { self.old.stopped ≡ false → IfErr result (HasReachCause self.old.file (D.state disk.old) (D.state disk.new)) }
         // A page that the refusal blames is damaged.
         ensures damage { IfErr result (BlamesDamage self.old.file (D.state disk.old)) }

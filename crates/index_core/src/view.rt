@@ -214,7 +214,7 @@ impl<M: Metric> View<M> {
         ensures searched { HasSearched (M.space self.old.metric) self.old (Nearest q.now k) (D.state disk.old) (D.state disk.new) result }
         // On any file: the records are a front of a walk with the least marks, and the answers are those that the records name.
         ensures front { IfOk result (λ found. IsTrue (D.state disk.old).is_known →
-            IsFront (M.space self.old.metric) (nodes_on self.old (D.state disk.old)) self.old.live q.now k found) }
+            IsFront (M.space self.old.metric) (nodes_on self.old (D.state disk.old)) self.old.live q.now k found.log) }
         ensures cause { IfErr result (HasReachCause self.old (D.state disk.old) (D.state disk.new)) }
     {
         let mut ruler = Meter::new(self.metric);

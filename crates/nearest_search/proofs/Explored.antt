@@ -325,7 +325,7 @@ module _ (s : Space) (axioms : IsSpace s) (old : Shelf) (live : Live) (q : List 
   -- on any tree the log is a front of the walk, with the root's record
   pub nearest_front : (now : Shelf) (state : State) (rho opened : ℕ) → IsExplored s old now live q k state rho opened used → (records : List Record) (tagged : List TaggedHit) →
       IsRebuiltLog rho state.kept live records tagged → (found : Found) → found.log.records ≡ records → found.log.answers ≡ selected (Nearest q k) (hits_among tagged) → IsTrue old.is_known →
-      IsFront s (nodes_of old.read) live q k found
+      IsFront s (nodes_of old.read) live q k found.log
   nearest_front now state rho opened explored records tagged logged found are answers is_known = record {
     rho = rho;
     hits = hits_among tagged;

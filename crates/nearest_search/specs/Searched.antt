@@ -14,6 +14,7 @@ use Rattle.page_store.specs.declared.pages.PageFault.TheVariants.{Disk, Bad, Out
 use Rattle.page_store.specs.Reading.{IsWithin, is_within, nodes_of}
 use Rattle.page_store.specs.Shelf.{Shelf, HoldsSame}
 use Rattle.log_model.specs.declared.logs.Found.{Found}
+use Rattle.log_model.specs.declared.logs.Log.{Log}
 use Rattle.log_model.specs.declared.marks.Need.{Need}
 use Rattle.log_model.specs.declared.marks.Record.{Record}
 use Rattle.metric_laws.specs.Counts.{count_up}
@@ -93,10 +94,10 @@ pub record IsNearest (s : Space) (nodes : Nodes) (live : Live) (q : List ℕ) (k
 
 -- On any tree: the records are a front of the walk with the least marks at some radius, the root's record among them, and the
 -- answers are the first k that this front names. So a root that holds no node has no answer.
-pub record IsFront (s : Space) (nodes : Nodes) (live : Live) (q : List ℕ) (k : ℕ) (found : Found) : Type 0 where
+pub record IsFront (s : Space) (nodes : Nodes) (live : Live) (q : List ℕ) (k : ℕ) (log : Log) : Type 0 where
   pub rho : ℕ
   pub hits : List Hit
   pub left : List Need
-  pub walk : ReachesBy AreLeast (search_at s q rho) nodes (root_need live.root ∷ []) found.log.records hits left
-  pub some : 1 ≤ length found.log.records
-  pub answers_are : found.log.answers ≡ selected (Nearest q k) hits
+  pub walk : ReachesBy AreLeast (search_at s q rho) nodes (root_need live.root ∷ []) log.records hits left
+  pub some : 1 ≤ length log.records
+  pub answers_are : log.answers ≡ selected (Nearest q k) hits

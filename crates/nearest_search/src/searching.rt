@@ -49,7 +49,7 @@ pub fn nearest<P: Pages, R: Ruler>(
         IsNearest (R.M.space (R.metric ruler.old)) (nodes_of (P.shelf pages.old).read) live.now q.now k (P.shelf pages.old)
         (P.shelf pages.new) found) }
     ensures front { IfOk result (λ found. IsTrue (P.shelf pages.old).is_known →
-        IsFront (R.M.space (R.metric ruler.old)) (nodes_of (P.shelf pages.old).read) live.now q.now k found) }
+        IsFront (R.M.space (R.metric ruler.old)) (nodes_of (P.shelf pages.old).read) live.now q.now k found.log) }
     // The objects that the log's walk meets, with their tags.
     ensures tagged { IfOk result (λ found. IsTrue (P.shelf pages.old).is_known →
         found.tagged ≡ tagged_by (R.M.space (R.metric ruler.old)) q.now (nodes_of (P.shelf pages.old).read) live.now.root
