@@ -40,7 +40,8 @@ use Rattle.log_model.specs.Walk.{AreLeast, ReachesBy, Search, near_ones, need_of
 use Rattle.range_search.specs.Searched.{HasWalkCause, Needs}
 use Rattle.nearest_search.specs.Searched.{HasNearestCause, IsReachedBy}
 use Rattle.nearest_search.specs.Walks.{OpensBefore, WalksTo, named_of}
-use Rattle.hit_tags.specs.Met.{ComesTo, marked_node, near_pages, with_marks}
+use Rattle.log_model.specs.Met.{marked_node, near_pages, with_marks}
+use Rattle.hit_tags.specs.Comes.{ComesTo}
 use Rattle.hit_tags.specs.Tags.{HasTagsCause}
 use Rattle.free_pages.specs.Keeping.{FreePages}
 use Rattle.page_store.specs.Tours.{children}

@@ -10,6 +10,8 @@ use Rattle.log_model.specs.declared.logs.Found.{Found}
 use Rattle.metric_laws.specs.Counts.{count_up}
 use Rattle.log_model.specs.Counts.{measured}
 use Rattle.log_model.specs.Laws.{scan_answers}
+use Rattle.log_model.specs.Grammar.{query_point}
+use Rattle.log_model.specs.Met.{tagged_by}
 use Rattle.log_model.specs.Sound.{IsLogOf, IsLeastLog}
 use Rattle.log_model.specs.Walk.{search_at}
 use Rattle.hit_tags.specs.Tags.{met_tags, object_tags, IsOwnTag, IsShown, HasTagsCause}
@@ -41,9 +43,12 @@ pub record IsAnswerOn {M : Type 0} (s : Space) (file : OpenFile M) (query : Quer
   pub least : IsLeastLog s (nodes_on file old) file.live query found.log
   pub reads : new.reads ≤ old.reads + length found.log.records
 
--- What a search gives: a log of the query that can be spelled; on a sound file the answer, and no refusal but for the disk or memory.
+-- What a search gives: a log of the query that can be spelled, and the objects that its walk meets where the disk tells its bytes;
+-- on a sound file the answer, and no refusal but for the disk or memory.
 pub record HasSearched {M : Type 0} (s : Space) (file : OpenFile M) (query : Query) (old new : DiskState) (result : Result Found IndexFault) : Type 0 where
   pub log : IfOk result (IsLogOf file.live query)
+  pub tagged : IfOk result (λ found. IsTrue old.is_known →
+      found.tagged ≡ tagged_by s (query_point query) (nodes_on file old) file.live.root found.log.records)
   pub answer : IsSoundOn s file old → IfOk result (IsAnswerOn s file query old new)
   pub undamaged : IsSoundOn s file old → IfErr result MayComeAnytime
 
