@@ -1,5 +1,5 @@
 -- The outcomes of commands on an image, a file in memory. The image and the command alone decide the outcome.
-use Rattle.std.specs.Prelude.{◌≡◌, ◌≢◌, ◌⊎◌, ℕ, min, Bool, true, false, List, [], ◌∷◌, length, Option, Some, None, MatchOption, IsTrue, Result, Ok, Err, alloc_error}
+use Rattle.std.specs.Prelude.{◌≡◌, ℕ, min, Bool, true, false, List, [], length, Option, Some, None, MatchOption, Result, Ok, Err, alloc_error}
 use Rattle.std.specs.declared.alloc.AllocError.{AllocError}
 use Rattle.metric_laws.specs.Space.{Space, bound}
 use Rattle.scan_model.specs.declared.hit.Hit.{Hit}
@@ -24,10 +24,12 @@ use Rattle.page_store.specs.Shelf.{Shelf, IsDamage}
 use Rattle.page_store.specs.Shelves.{image_shelf}
 use Rattle.log_model.specs.declared.logs.Log.{Log}
 use Rattle.log_model.specs.declared.logs.Found.{Found}
+use Rattle.log_model.specs.declared.tagged.TaggedHit.{TaggedHit}
 use Rattle.log_model.specs.Grammar.{IsValidLog}
+use Rattle.log_model.specs.Met.{tagged_by}
 use Rattle.log_model.specs.Sound.{IsLeastLog, IsLogOf}
 use Rattle.log_model.specs.Walk.{search_at}
-use Rattle.hit_tags.specs.Tags.{HasTagsCause, IsShown, met_tags, object_tags}
+use Rattle.hit_tags.specs.Tags.{met_tags}
 use Rattle.range_search.specs.Searched.{HasWalkCause}
 use Rattle.nearest_search.specs.Searched.{HasNearestCause, IsFront}
 use Rattle.answer_texts.specs.Answered.{Answered}
@@ -76,9 +78,11 @@ FollowsWalk s nodes live (query.Nearest q k) log = IsFront s nodes live q k log
 
 -- the answer to a query: its log, the hits of the log, and the tags that the walk of the log meets for them
 pub record IsAnswer (s : Space) (live : Live) (image : List ℕ) (asked : Query) (hits : List Hit) (tags : List ℕ) (log : Log) : Type 0 where
-  pub named : IsLogOf live asked (record { hits = hits; log = log })
+  -- the objects that the walk of the log meets
+  pub tagged : List TaggedHit
+  pub named : IsLogOf live asked (record { hits = hits; tagged = tagged; log = log })
   pub walk : FollowsWalk s (nodes_in s.dimension live image) live asked log
-  pub tags_are : tags ≡ met_tags (nodes_in s.dimension live image) live (record { hits = hits; log = log })
+  pub tags_are : tags ≡ met_tags (nodes_in s.dimension live image) live (record { hits = hits; tagged = tagged; log = log })
 
 -- pages that hold `read` and were asked `asked` times; and the same for the pages of an image
 abbrev pub pages_holding : Space → Live → Read → ℕ → Shelf
@@ -160,20 +164,15 @@ pub record ArePagesOf (s : Space) (live : Live) (image : List ℕ) (pages : Cach
 
 -- ---- the result of a search, and its tags
 
--- the tags of the found hits are those that the walk of the log meets; where the log shows the hits, they are the tags of the hits'
--- objects
-pub record AreTagsOf (shelf : Shelf) (live : Live) (found : Found) (tags : List ℕ) : Type 0 where
+-- there is one tag for each found hit. Where the search met what the walk of its log meets, the tags are those that the walk meets
+pub record AreTagsOf (found : Found) (tags : List ℕ) : Type 0 where
   pub each : length tags ≡ length found.hits
-  pub met : IsTrue shelf.is_known → tags ≡ met_tags (nodes_of shelf.read) live found
-  pub objects : IsTrue shelf.is_known → (s : Space) → IsShown s (nodes_of shelf.read) live found → tags ≡ object_tags (nodes_of shelf.read) live found
+  pub met : (s : Space) (q : List ℕ) (nodes : Nodes) (live : Live) → found.tagged ≡ tagged_by s q nodes live.root found.log.records → tags ≡ met_tags nodes live found
 
--- what was found is answered with its tags, or the walk of its log met a page without a node; where tags are not wanted, it is
--- answered without them
-abbrev pub IsTagged : Bool → Shelf → Shelf → Live → Found → Outcome → Type 0
-IsTagged false old new live found o = o ≡ outcome.Done (reply.Hits found.hits []) (Some found.log)
-IsTagged true old new live found o =
-    ((tags : List ℕ) × (o ≡ outcome.Done (reply.Hits found.hits tags) (Some found.log)) × AreTagsOf old live found tags)
-    ⊎ ((fault : PageFault) × (o ≡ outcome.Damaged fault) × (fault ≢ page.Memory) × HasTagsCause old new (live.root ∷ []) found.log.records fault)
+-- what was found is answered, with the tags of its hits where these are wanted
+abbrev pub IsTagged : Bool → Found → Outcome → Type 0
+IsTagged false found o = o ≡ outcome.Done (reply.Hits found.hits []) (Some found.log)
+IsTagged true found o = (tags : List ℕ) × (o ≡ outcome.Done (reply.Hits found.hits tags) (Some found.log)) × AreTagsOf found tags
 
 -- what a page that gave no node means to a query: running out of memory ends it, and any other fault is the outcome
 abbrev pub outcome_of_fault : PageFault → Result Outcome AllocError

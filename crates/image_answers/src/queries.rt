@@ -1,21 +1,18 @@
 //! Answers queries on a file in memory.
 
-ghost use Rattle.std.specs.Prelude.{◌≡◌, ◌≢◌, ◌≤◌, ◌^◌, ◌∷◌, [], Some, true, IsTrue, IfOk, Ok, Err, alloc_error};
+ghost use Rattle.std.specs.Prelude.{◌≡◌, ◌≤◌, ◌^◌, [], Some, true, IfOk};
 ghost use Rattle.lru.specs.LruCache.{lru_cache};
 ghost use Rattle.rows_text.specs.declared.command.Command.TheVariants as command;
 ghost use Rattle.page_store.specs.Images.{bytes_in};
-ghost use Rattle.page_store.specs.Reading.{nodes_of};
-ghost use Rattle.page_store.specs.Shelf.{HoldsSame};
-ghost use Rattle.hit_tags.specs.Met.{AreMarked};
 ghost use Rattle.image_answers.specs.Outcomes.{ArePagesOf, IsGivenOf, IsOutcomeOf, IsTagged, outcome_of_fault};
 
 use crate::outcome::Outcome;
-use hit_tags::marked_tags;
+use hit_tags::found_tags;
 use log_model::Found;
 use metric_laws::{Listed, Meter, Metric, Point};
 use nearest_search::nearest;
 use page_cache::{Cached, KEPT_NODES};
-use page_store::{Image, ImagePages, PageFault, Pages};
+use page_store::{Image, ImagePages, PageFault};
 use range_search::range;
 use rows_text::{Refusal, Reply};
 use std::alloc::{AllocError, Global};
@@ -73,29 +70,17 @@ fn answered(found: Found, tags: Vec<u64>) -> Outcome
 }
 
 // Returns the outcome of what was found, with the tags of its hits where they are wanted.
-fn tagged<P: Pages>(
-    alloc: Global,
-    pages: &mut P,
-    live: &Live,
-    found: Found,
-    tags: bool,
-) -> Result<Outcome, AllocError>
-    requires marked { IsTrue (P.shelf pages.old).is_known →
-        AreMarked (nodes_of (P.shelf pages.old).read) (live.now.root ∷ []) found.log.records }
-    ensures same { HoldsSame (P.shelf pages.old) (P.shelf pages.new) }
-    ensures keeps { P.keeps pages.old pages.new }
-    ensures tagged { IfOk result (IsTagged tags (P.shelf pages.old) (P.shelf pages.new) live.now found) }
+fn tagged(alloc: Global, found: Found, tags: bool) -> Result<Outcome, AllocError>
+    ensures { IfOk result (IsTagged tags found) }
 {
     if !tags {
         return Ok(answered(found, Vec::new(alloc)));
     }
-    match marked_tags(alloc, pages, live, &found) {
-        Ok(tags) => Ok(answered(found, tags)),
-        Err(fault) => outcome_of_fault(fault),
-    }
+    let tags = found_tags(alloc, &found)?;
+    Ok(answered(found, tags))
 }
 
-/// Finds all objects within `r` of `q`. Where tags are not wanted, the hits have none, and no page is opened for them.
+/// Finds all objects within `r` of `q`. No page is opened for tags. Where tags are not wanted, the hits have none.
 /// Arguments: `pages`, `metric` and `live` are the opened file, `q` and `r` the query, and `tags` says whether tags are wanted.
 pub fn range_on<M: Metric>(
     alloc: Global,
@@ -119,12 +104,12 @@ pub fn range_on<M: Metric>(
     pages.count_anew();
     let mut ruler = Meter::new(metric);
     match range(alloc, pages, &mut ruler, live, q.as_slice(), r) {
-        Ok(found) => tagged(alloc, pages, live, found, tags),
+        Ok(found) => tagged(alloc, found, tags),
         Err(fault) => outcome_of_fault(fault),
     }
 }
 
-/// Finds the `k` objects nearest to `q`. Where tags are not wanted, the hits have none, and no page is opened for them.
+/// Finds the `k` objects nearest to `q`. No page is opened for tags. Where tags are not wanted, the hits have none.
 /// Arguments: `pages`, `metric` and `live` are the opened file, `q` and `k` the query, and `tags` says whether tags are wanted.
 pub fn nearest_on<M: Metric>(
     alloc: Global,
@@ -149,7 +134,7 @@ pub fn nearest_on<M: Metric>(
     pages.count_anew();
     let mut ruler = Meter::new(metric);
     match nearest(alloc, pages, &mut ruler, live, q.as_slice(), k) {
-        Ok(found) => tagged(alloc, pages, live, found, tags),
+        Ok(found) => tagged(alloc, found, tags),
         Err(fault) => outcome_of_fault(fault),
     }
 }

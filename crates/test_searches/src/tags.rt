@@ -1,16 +1,17 @@
 use crate::given::{holds, leaves, torn_leaves};
-use disk_model::{Disk, FileDisk, MemoryDisk};
-use hit_tags::{marked_tags, tags_of};
-use log_model::{Found, Log, Mark, NodeMarks, Record};
-use metric_laws::{Listed, Point};
+use disk_model::{Disk, MemoryDisk};
+use hit_tags::{found_tags, tags_of};
+use log_model::{Found, Log, Mark, NodeMarks, Record, TaggedHit};
+use metric_laws::{Listed, Meter, Point};
 use node_page::NodeFault;
 use page_store::{DiskPages, ImagePages, PageFault, Pages};
+use range_search::range;
 use scan_model::{Hit, Query};
 use small_trees::{Entry, one_leaf};
 use std::alloc::{AllocError, Global};
-use std::fs::{self, File};
 use std::process::Abort;
 use tree_shape::Live;
+use vector_kinds::L1;
 
 // Describes the live tree of the numbers 0 to 32.
 const NUMBERS: Live = Live {
@@ -61,11 +62,25 @@ fn hits_of(alloc: Global, ids: &[u32]) -> Result<Vec<Hit>, AllocError> {
     Ok(hits)
 }
 
-// Makes hits with these ids, and a log with the records that are described.
-fn found_of(rt: &(impl AllocGlobal + Abort), ids: &[u32], marked: &[Marked]) -> Found {
+// Describes an object that a search met: its id and its tag.
+type Met = (u32, u64);
+
+// Makes hits with these ids, each with its tag.
+fn tagged_hits_of(alloc: Global, met: &[Met]) -> Result<Vec<TaggedHit>, AllocError> {
+    let mut tagged = Vec::new(alloc);
+    for (id, tag) in met {
+        let hit = Hit { id: *id, dist: 0 };
+        tagged.push(TaggedHit { hit, tag: *tag })?;
+    }
+    Ok(tagged)
+}
+
+// Makes hits with these ids, the objects that are met, and a log with the records that are described.
+fn found_of(rt: &(impl AllocGlobal + Abort), ids: &[u32], met: &[Met], marked: &[Marked]) -> Found {
     let q = Point::new(rt.alloc(), &[0]).expect(rt, "memory");
     Found {
         hits: Listed::new(hits_of(rt.alloc(), ids).expect(rt, "memory")),
+        tagged: Listed::new(tagged_hits_of(rt.alloc(), met).expect(rt, "memory")),
         log: Log {
             generation: 34,
             root: 5,
@@ -84,7 +99,7 @@ fn ask_tags<P: Pages>(
     ids: &[u32],
     marked: &[Marked],
 ) -> Result<Vec<u64>, PageFault> {
-    let found = found_of(rt, ids, marked);
+    let found = found_of(rt, ids, &[], marked);
     tags_of(rt.alloc(), pages, live, &found)
 }
 
@@ -243,40 +258,50 @@ fn a_read_that_fails(rt: HostRuntime) {
     check_again(&rt, &mut disk);
 }
 
-// Asks a real file for the tags of 3 and 17, and counts the pages asked for.
-fn tags_on(
-    rt: &(impl AllocGlobal + Abort),
-    disk: &mut FileDisk,
-    marked: &[Marked],
-) -> (Result<Vec<u64>, PageFault>, u64) {
-    let found = found_of(rt, &[3, 17], marked);
-    let mut pages = DiskPages::new(disk, 1, 6);
-    let tags = marked_tags(rt.alloc(), &mut pages, &NUMBERS, &found);
-    (tags, pages.asked)
+// Checks the tags of hits with these ids, where a search met these objects.
+fn check_found(rt: &(impl AllocGlobal + Abort), ids: &[u32], met: &[Met], wanted: &[u64]) {
+    let found = found_of(rt, ids, met, &[]);
+    let tags = found_tags(rt.alloc(), &found).expect(rt, "memory");
+    holds(rt, tags.as_slice() == wanted);
 }
 
-// Checks the tags of 3 and 17 on a real file, and that `asked` pages are asked for.
-fn check_marked(
-    rt: &(impl AllocGlobal + Abort),
-    disk: &mut FileDisk,
-    marked: &[Marked],
-    wanted: &[u64],
-    asked: u64,
-) {
-    let (tags, count) = tags_on(rt, disk, marked);
-    holds(rt, are_tags(&tags, &Ok(wanted)));
-    holds(rt, count == asked);
-}
-
-// Reads a real file, which tells nothing of its bytes, so that any log can be handed in.
 #[test]
-fn a_page_of_which_nothing_is_near_is_not_opened(rt: HostRuntime) {
-    let path = "numbers_of_a_test";
-    fs::write(&rt, path, &leaves(&rt, 4)).expect(&rt, "written");
-    let mut disk = FileDisk::new(File::open(&rt, path).expect(&rt, "opened"));
-    check_marked(&rt, &mut disk, &[ROOT, LOW, HIGH], &[103, 117], 3);
-    check_marked(&rt, &mut disk, &[ROOT, (3, 16, 0, 0), HIGH], &[0, 117], 2);
-    check_marked(&rt, &mut disk, &[ROOT, LOW, (4, 17, 0, 0)], &[103, 0], 2);
-    check_marked(&rt, &mut disk, &[(5, 2, 0, 0)], &[0, 0], 0);
-    fs::remove_file(&rt, path).expect(&rt, "removed");
+fn a_found_hit_has_the_tag_of_the_first_met_object_with_its_id(rt: HostRuntime) {
+    let cases: &[(&[u32], &[Met], &[u64])] = &[
+        // Has the hits in another order than the search met them.
+        (
+            &[3, 17, 2],
+            &[(17, 117), (2, 102), (3, 103)],
+            &[103, 117, 102],
+        ),
+        // Has two ids twice, each with two tags.
+        (&[7, 8, 7], &[(7, 1), (8, 0), (7, 2), (8, 3)], &[1, 0, 1]),
+        // Has an id that was not met, and nothing met.
+        (&[3, 40], &[(3, 103)], &[103, 0]),
+        (&[3], &[], &[0]),
+    ];
+    for (ids, met, wanted) in cases {
+        check_found(&rt, ids, met, wanted);
+    }
+}
+
+// Finds what lies within 2 of the number `q`.
+fn find<P: Pages>(rt: &(impl AllocGlobal + Abort), pages: &mut P, live: &Live, q: u32) -> Found {
+    let mut ruler = Meter::new(L1::new(1));
+    assert!(rt; metric_laws::Ruler::is_point(&ruler, &[q]));
+    assert!(rt; live.pages <= 100);
+    range(rt.alloc(), pages, &mut ruler, live, &[q], 2).expect(rt, "found")
+}
+
+#[test]
+fn a_search_gives_the_tags_of_its_log_without_a_page(rt: HostRuntime) {
+    let bytes = leaves(&rt, 4);
+    let mut pages = ImagePages::new(&bytes, 1, 6);
+    let found = find(&rt, &mut pages, &NUMBERS, 17);
+    let asked = pages.asked;
+    let tags = found_tags(rt.alloc(), &found).expect(&rt, "memory");
+    holds(&rt, pages.asked == asked);
+    holds(&rt, tags.as_slice() == [117, 116, 118, 115, 119].as_slice());
+    let walked = tags_of(rt.alloc(), &mut pages, &NUMBERS, &found);
+    holds(&rt, are_tags(&walked, &Ok(tags.as_slice())));
 }

@@ -1,8 +1,8 @@
 use Rattle.std.proofs.Common.{◌∙◌, refl, rules, sym}
 use Rattle.page_store.specs.Images.{bytes_in}
 use Rattle.rows_text.specs.declared.command.Command.TheVariants as command
-use Rattle.image_answers.proofs.Asking.{given_plain, nearest_found, nearest_fault, nearest_marked, whole_if_ok}
-use Rattle.image_answers.proofs.PagesOf.{counted_anew, shelf_is, shelf_of, still_are, unasked}
+use Rattle.image_answers.proofs.Asking.{given_plain, nearest_found, nearest_fault, whole_if_ok}
+use Rattle.image_answers.proofs.PagesOf.{counted_anew, shelf_is, still_are, unasked}
 use Rattle.image_answers.proofs.queries.nearest_on.Goals as goal
 
 pub returns-in-Ok-clause-given : goal.returns-in-Ok-clause-given
@@ -14,7 +14,7 @@ returns-in-Ok-clause-given g c =
     nearest_found s c.args.live.now image c.args.q.now (rw (← c.as_slice.ensures) (sym c.is_point.ensures ∙ c.if-not-is_point.false)) _ _ c.nearest.new.pages.asked
     (unasked s c.args.live.now image c.args.pages.now c.count_anew.new.self c.requires.pages c.count_anew.ensures)
     (shelf_is s c.args.live.now image c.nearest.new.pages c.nearest.new.pages after)
-    c.args.tags c.args.k (shelf_of c.tagged.new.pages) c.in-Ok.found refl (rw c.as_slice-2.ensures at c.in-Ok.ensures.log) (rw (c.new-ruler.ensures.metric, c.as_slice-2.ensures) at c.in-Ok.ensures.front) (rw (c.new-ruler.ensures.metric, c.as_slice-2.ensures) at c.in-Ok.ensures.nearest) c.tagged.result c.tagged.ensures.tagged
+    c.args.tags c.args.k c.in-Ok.found (rw c.as_slice-2.ensures at c.in-Ok.ensures.log) (rw (c.new-ruler.ensures.metric, c.as_slice-2.ensures) at c.in-Ok.ensures.front) (rw (c.new-ruler.ensures.metric, c.as_slice-2.ensures) at c.in-Ok.ensures.nearest) (rw (c.new-ruler.ensures.metric, c.as_slice-2.ensures) at c.in-Ok.ensures.tagged) c.tagged.result c.tagged.ensures
 
 pub returns-in-Err-clause-given : goal.returns-in-Err-clause-given
 returns-in-Err-clause-given g c =
@@ -28,19 +28,6 @@ returns-in-Err-clause-given g c =
     (shelf_is s c.args.live.now image c.nearest.new.pages c.nearest.new.pages after)
     c.args.tags c.args.k c.in-Err.fault c.in-Err.ensures.cause (rw c.new-ruler.ensures.metric at c.in-Err.ensures.sound))
 
-pub tagged-requires : goal.tagged-requires
-tagged-requires g c =
-    let s = g.M.Metric.space c.args.metric in
-    let image = bytes_in c.args.pages.now.inner.image in
-    let begun = counted_anew s c.args.live.now image c.args.pages.now c.count_anew.new.self c.requires.pages c.count_anew.ensures in
-    let after = still_are s c.args.live.now image c.count_anew.new.self c.nearest.new.pages begun c.in-Ok.ensures.same c.in-Ok.ensures.keeps.0 in
-    record {
-      marked = nearest_marked s c.args.live.now image c.args.q.now (rw (← c.as_slice.ensures) (sym c.is_point.ensures ∙ c.if-not-is_point.false)) _ _ c.nearest.new.pages.asked
-          (unasked s c.args.live.now image c.args.pages.now c.count_anew.new.self c.requires.pages c.count_anew.ensures)
-          (shelf_is s c.args.live.now image c.nearest.new.pages c.nearest.new.pages after)
-          c.args.k c.in-Ok.found (rw (c.new-ruler.ensures.metric, c.as_slice-2.ensures) at c.in-Ok.ensures.front);
-    }
-
 pub returns-in-Ok-clause-whole : goal.returns-in-Ok-clause-whole
 returns-in-Ok-clause-whole g c =
     whole_if_ok (g.M.Metric.space c.args.metric) c.args.live.now (bytes_in c.args.pages.now.inner.image) (command.Nearest c.args.k c.args.q.now) c.args.tags c.tagged.result (returns-in-Ok-clause-given g c)
@@ -53,9 +40,8 @@ pub returns-in-Ok-clause-same : goal.returns-in-Ok-clause-same
 returns-in-Ok-clause-same g c =
     let s = g.M.Metric.space c.args.metric in
     let image = bytes_in c.args.pages.now.inner.image in
-    let begun = counted_anew s c.args.live.now image c.args.pages.now c.count_anew.new.self c.requires.pages c.count_anew.ensures in
-    let after = still_are s c.args.live.now image c.count_anew.new.self c.nearest.new.pages begun c.in-Ok.ensures.same c.in-Ok.ensures.keeps.0 in
-    still_are s c.args.live.now image c.nearest.new.pages c.tagged.new.pages after c.tagged.ensures.same c.tagged.ensures.keeps.0
+    still_are s c.args.live.now image c.count_anew.new.self c.nearest.new.pages
+    (counted_anew s c.args.live.now image c.args.pages.now c.count_anew.new.self c.requires.pages c.count_anew.ensures) c.in-Ok.ensures.same c.in-Ok.ensures.keeps.0
 
 pub returns-in-Err-clause-same : goal.returns-in-Err-clause-same
 returns-in-Err-clause-same g c =

@@ -1,13 +1,14 @@
-use Rattle.std.proofs.Common.{inl, arith}
+use Rattle.std.proofs.Common.{◌∙◌, ap, length}
+use Rattle.metric_laws.proofs.Published.{length_map}
+use Rattle.hit_tags.specs.Tags.{tag_among}
 use Rattle.image_answers.proofs.queries.tagged.Goals as goal
 
-pub returns-in-Ok-clause-tagged : goal.returns-in-Ok-clause-tagged
-returns-in-Ok-clause-tagged g c = rw c.if-not-tags.false (inl (
-  c.in-Ok.tags.items,
-  c.answered-in-Ok.ensures,
+pub returns : goal.returns
+returns c = rw c.if-not-tags.false (
+  c.in_ok-tags.tags.items,
+  c.answered-2.ensures,
   record {
-    each = (let o = c.in-Ok.tags.ok in let l = c.in-Ok.ensures.each in omega arith);
-    met = c.in-Ok.ensures.met;
-    objects = c.in-Ok.ensures.objects;
+    each = ap length c.in_ok-tags.ensures.first ∙ length_map (λ h. tag_among h.id c.args.found.tagged) c.args.found.hits;
+    met = c.in_ok-tags.ensures.met;
   },
-))
+)
