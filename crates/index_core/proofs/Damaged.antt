@@ -35,12 +35,12 @@ use Rattle.log_model.specs.declared.marks.Mark.TheVariants.{Skip, Far, Near}
 use Rattle.log_model.specs.declared.marks.Need.{Need}
 use Rattle.log_model.specs.declared.marks.Record.{Record}
 use Rattle.metric_laws.specs.Counts.{count_up}
-use Rattle.log_model.specs.Counts.{entry_count}
 use Rattle.log_model.specs.Walk.{AreLeast, ReachesBy, Search, near_ones, need_of, needs_of, root_need, search_at}
 use Rattle.range_search.specs.Searched.{HasWalkCause, Needs}
 use Rattle.nearest_search.specs.Searched.{HasNearestCause, IsReachedBy}
 use Rattle.nearest_search.specs.Walks.{OpensBefore, WalksTo, named_of}
-use Rattle.log_model.specs.Met.{marked_node, near_pages, with_marks}
+use Rattle.log_model.specs.Met.{marked_node, near_pages}
+use Rattle.log_model.proofs.Published.{marked_is}
 use Rattle.hit_tags.specs.Comes.{ComesTo}
 use Rattle.hit_tags.specs.Tags.{HasTagsCause}
 use Rattle.free_pages.specs.Keeping.{FreePages}
@@ -240,21 +240,6 @@ near_page : (node : Node) (ms : List Mark) (page : ℕ) → IsIn page (near_page
 near_page (Leaf es) ms page i = absurd i
 near_page (Inner level es) ms page i = near_child es ms page i
 
-marked_there : (ms : List Mark) (o : Option Node) (node : Node) → with_marks ms o ≡ Some node → o ≡ Some node
-marked_there ms None node is = absurd (let e : None ≡ Some node = is in cc)
-marked_there ms (Some n) node is = cases (length ms == entry_count n) is
-  where
-    cases : (b : Bool) → (if b then Some n else None) ≡ Some node → Some n ≡ Some node
-    cases true is = is
-    cases false is = absurd (let e : None ≡ Some node = is in cc)
-
-marked_node_is : (nodes : Nodes) (page : ℕ) (r : Record) (node : Node) → marked_node nodes page r ≡ Some node → nodes page ≡ Some node
-marked_node_is nodes page r node is = cases (r.page == page) is
-  where
-    cases : (b : Bool) → (if b then with_marks r.marks (nodes page) else None) ≡ Some node → nodes page ≡ Some node
-    cases true is = marked_there r.marks (nodes page) node is
-    cases false is = absurd (let e : None ≡ Some node = is in cc)
-
 module _ (nodes : Nodes) (root : ℕ) where
   -- the walk by a log comes only to reached pages
   comes_reached : (needed : List ℕ) (records : List Record) (page : ℕ) → ((p : ℕ) → IsIn p needed → IsReached nodes root p) → ComesTo nodes needed records page → IsReached nodes root page
@@ -271,7 +256,7 @@ module _ (nodes : Nodes) (root : ℕ) where
         | inl named ↦ (
             let e = near_page node r.marks q named in
             subst (IsReached nodes root) (sym e.2)
-            (by_child p e.0 (each p (inl refl)) (subst (λ (o : Option Node). IsIn e.0 (inner_entries o)) (sym (marked_node_is nodes p r node is)) e.1))
+            (by_child p e.0 (each p (inl refl)) (subst (λ (o : Option Node). IsIn e.0 (inner_entries o)) (sym (marked_is nodes p r node is)) e.1))
             )
         | inr old ↦ each q (inr old)
       ]

@@ -9,8 +9,8 @@ use Rattle.tree_shape.specs.Tree.{IsSoundTree, points_by_id, tags_by_id}
 use Rattle.log_model.specs.declared.logs.Found.{Found}
 use Rattle.metric_laws.specs.Counts.{count_up}
 use Rattle.log_model.specs.Counts.{measured}
-use Rattle.log_model.specs.Laws.{scan_answers}
 use Rattle.log_model.specs.Grammar.{query_point}
+use Rattle.log_model.specs.Laws.{scan_answers}
 use Rattle.log_model.specs.Met.{tagged_by}
 use Rattle.log_model.specs.Sound.{IsLogOf, IsLeastLog}
 use Rattle.log_model.specs.Walk.{search_at}
@@ -43,8 +43,8 @@ pub record IsAnswerOn {M : Type 0} (s : Space) (file : OpenFile M) (query : Quer
   pub least : IsLeastLog s (nodes_on file old) file.live query found.log
   pub reads : new.reads ≤ old.reads + length found.log.records
 
--- What a search gives: a log of the query that can be spelled, and the objects that its walk meets where the disk tells its bytes;
--- on a sound file the answer, and no refusal but for the disk or memory.
+-- What a search gives: a log of the query that can be spelled, and the objects that its walk meets where the disk tells its bytes; on
+-- a sound file the answer, and no refusal but for the disk or memory.
 pub record HasSearched {M : Type 0} (s : Space) (file : OpenFile M) (query : Query) (old new : DiskState) (result : Result Found IndexFault) : Type 0 where
   pub log : IfOk result (IsLogOf file.live query)
   pub tagged : IfOk result (λ found. IsTrue old.is_known →

@@ -1,6 +1,6 @@
 -- What a query of a session answers.
-use Rattle.std.proofs.Common.{◌≡◌, ℕ, ◌+◌, ◌*◌, ◌≤◌, Bool, true, false, List, ◌++◌, length, map, min, refl, sym, ap, subst, ◌∙◌, arith, Option, Some, None, Result, Ok, Err}
-use Rattle.std.specs.Prelude.{MatchOption, IfOk, IfErr, codes, flat_map, slice_index_or, if◌then◌else◌}
+use Rattle.std.proofs.Common.{◌≡◌, ℕ, ◌+◌, ◌≤◌, Bool, true, false, List, ◌++◌, length, min, refl, sym, ap, subst, ◌∙◌, arith, Option, Some, None, Result, Ok, Err}
+use Rattle.std.specs.Prelude.{MatchOption, IfErr, codes, flat_map}
 use Rattle.metric_laws.specs.Space.{Space, bound}
 use Rattle.outside_io.specs.Causes.{Rose}
 use Rattle.disk_model.specs.Disk.{DiskState}
@@ -14,35 +14,32 @@ use Rattle.plain_scan.specs.OpenCursors.{OpenCursors}
 use Rattle.page_store.specs.declared.pages.PageFault.{PageFault}
 use Rattle.page_store.specs.declared.pages.PageFault.TheVariants as page
 use Rattle.log_model.specs.declared.logs.Found.{Found}
-use Rattle.log_model.specs.Grammar.{IsValidLog}
+use Rattle.log_model.specs.Grammar.{IsValidLog, query_point}
 use Rattle.log_model.specs.Laws.{scan_answers}
-use Rattle.log_model.specs.Sound.{IsSoundLog}
-use Rattle.tree_shape.specs.Tree.{tags_by_id}
 use Rattle.log_model.proofs.Published.{least_sound}
+use Rattle.hit_tags.proofs.Published.{shown_tags}
 use Rattle.range_search.specs.Searched.{HasWalkCause}
 use Rattle.nearest_search.specs.Searched.{HasNearestCause}
 use Rattle.metric_laws.specs.Counts.{count_up}
 use Rattle.log_model.specs.Walk.{search_at}
 use Rattle.index_core.specs.declared.faults.IndexFault.{IndexFault}
 use Rattle.index_core.specs.declared.faults.IndexFault.TheVariants as fault
-use Rattle.index_core.specs.Answers.{HasRangeCause, HasReachCause, HasSearched, IsSoundOn, points_on, tags_on}
+use Rattle.index_core.specs.Answers.{HasRangeCause, HasReachCause, HasSearched, IsSoundOn, points_on}
 use Rattle.page_store.specs.Shelf.{IsDamage as IsWalkDamage}
 use Rattle.index_core.specs.Causes.{HasReadCause, MayComeAnytime}
 use Rattle.index_core.specs.Damage.{BlamesDamage}
-use Rattle.index_core.specs.Files.{OpenFile, IsValidFile, OnlyReads, nodes_on, pages_on}
+use Rattle.index_core.specs.Files.{IsValidFile, OnlyReads, nodes_on, pages_on}
 use Rattle.index_core.specs.Index.{OpenIndex, StandsAlone}
-use Rattle.index_core.proofs.Published.{reads_both}
 use Rattle.session_run.specs.declared.answer.Answer.{Answer}
 use Rattle.session_run.specs.declared.stop.SessionStop.{SessionStop}
 use Rattle.session_run.specs.declared.stop.SessionStop.TheVariants as stop
-use Rattle.session_run.specs.Session.{IsDamage, StandsBy, most_read, setting_of, state_on}
+use Rattle.session_run.specs.Session.{IsDamage, records_in, setting_of, state_on}
 use Rattle.session_run.specs.Steps.{HasStepCause, HasStepped, IsShownAs, answer_of_fault}
 use Rattle.answer_texts.specs.Answered.{if_any}
-use Rattle.answer_texts.specs.Asked.{Held, HasLog, answered_query}
+use Rattle.answer_texts.specs.Asked.{HasLog, answered_query}
 use Rattle.session_run.specs.Turns.{held_on}
 use Rattle.session_run.proofs.Faults.{blames_stands}
-use Rattle.session_run.proofs.Reading.{read_stepped, read_stopped, read_taken, sound_still, held_still}
-use Rattle.outside_io.proofs.Published.{rose_before}
+use Rattle.session_run.proofs.Reading.{read_stepped, read_stopped, read_taken}
 
 -- what ends a walk ends the session with the same cause
 pub fault_cause : {Sound : Type 0} (before after : DiskState) (walk : PageFault → Type 0) (why : IndexFault) → HasReadCause walk why → (walk page.Disk → Rose before.faults after.faults) →
@@ -92,29 +89,20 @@ same_text : (show : Bool) (hits scanned : List Hit) (tags meant : List ℕ) → 
 same_text true hits scanned tags meant same shown = (λ i. text true (reply.Hits (same i) (shown refl i)))
 same_text false hits scanned tags meant same shown = (λ i. counted (codes "hits ") (length (same i)) ++ flat_map hit_line (same i))
 
--- what a query and its tags read
-read_for : (show : Bool) (records before mid after : ℕ) → mid ≤ before + records → after ≤ mid + (if show then records else 0) → after ≤ before + (if show then 2 * (records + 0) else records + 0)
-read_for true records before mid after first second = omega arith
-read_for false records before mid after first second = omega arith
-
 -- a query that is answered
-pub query_stepped : {M : Type 0} (s : Space) (show : Bool) (old new : OpenIndex M) (file : OpenFile M) (cursors : OpenCursors) (before mid after : DiskState) (c : Command) (asked : Query) (found : Found) (a : Answer) →
-    IsValidFile s.dimension old.file → StandsAlone old before → new.stopped ≡ false → OnlyReads old.file file before mid → OnlyReads file new.file mid after →
-    HasSearched s old.file asked before mid (Ok found) → IsShownAs s show file found mid a → after.reads ≤ mid.reads + (if show then length found.log.records else 0) → answered_query s c ≡ Some asked →
+pub query_stepped : {M : Type 0} (s : Space) (show : Bool) (old new : OpenIndex M) (cursors : OpenCursors) (before after : DiskState) (c : Command) (asked : Query) (found : Found) (a : Answer) →
+    IsValidFile s.dimension old.file → StandsAlone old before → new.stopped ≡ false → OnlyReads old.file new.file before after → HasSearched s old.file asked before after (Ok found) → IsShownAs show found a →
+    answered_query s c ≡ Some asked →
     step (setting_of s old.file) (state_on old.file before cursors) c
     ≡ record { reply = hits_reply (state_on old.file before cursors).objects (scan_answers s asked (points_on old.file before)); state = state_on old.file before cursors } →
     HasStepped s show old new cursors cursors before after c (Ok a)
-query_stepped {M} s show old new file cursors before mid after c asked found a valid alone going first second searched shown few answered meaning =
-    read_stepped s show old new cursors cursors before after c a valid alone going both
+query_stepped {M} s show old new cursors before after c asked found a valid alone going reads searched shown answered meaning =
+    read_stepped s show old new cursors cursors before after c a valid alone going reads
     (subst (λ (x : Answer). MatchOption x.log (Unit {0}) IsValidLog) (sym shown.is) searched.log.valid)
     (λ asks. subst (λ (x : Answer). TagsAre x.reply) (sym shown.is) (shown.each asks))
-    (λ sound. read_taken s show old new.file cursors cursors before after c a None (hits_reply objects (scan_answers s asked objects.points)) valid alone both sound meaning refl tt (logged sound) (same sound)
-    (λ asks. subst (λ (x : Answer). after.reads ≤ before.reads + most_read show (if_any x.log)) (sym shown.is)
-    (read_for show (length found.log.records) before.reads mid.reads after.reads (searched.answer sound).reads few)))
+    (λ sound. read_taken s show old new.file cursors cursors before after c a None (hits_reply objects (scan_answers s asked objects.points)) valid alone reads sound meaning refl tt (logged sound) (same sound)
+    (λ asks. subst (λ (x : Answer). after.reads ≤ before.reads + records_in (if_any x.log)) (sym shown.is) (let few = (searched.answer sound).reads in omega (arith, few))))
   where
-    both : OnlyReads old.file new.file before after
-    both = reads_both old.file file new.file before mid after first second
-
     objects : Holdings
     objects = (state_on old.file before cursors).objects
 
@@ -124,44 +112,17 @@ query_stepped {M} s show old new file cursors before mid after c asked found a v
 
     own_tags : IsSoundOn s old.file before → show ≡ true → shown.tags ≡ tags_of objects (scan_answers s asked objects.points)
     own_tags sound asks =
-        shown.objects asks (sound_still s old.file file before mid first sound).0 (record {
-          tree = (sound_still s old.file file before mid first sound).1;
-          log = subst (λ (v : Held). IsSoundLog s v.nodes v.live found.log) (sym (held_still old.file file before mid first)) (least_sound s (nodes_on old.file before) old.file.live asked found.log (searched.answer sound).least);
+        shown.met asks s (query_point asked) (nodes_on old.file before) old.file.live (searched.tagged sound.0)
+        ∙ shown_tags s (nodes_on old.file before) old.file.live found (record {
+          tree = sound.1;
+          log = least_sound s (nodes_on old.file before) old.file.live asked found.log (searched.answer sound).least;
           hits_are = searched.log.hits_are;
         })
-        ∙ (λ i. map (λ h. slice_index_or (tags_still i) h.id 0) ((searched.answer sound).hits i))
-      where
-        tags_still : tags_on file mid ≡ tags_on old.file before
-        tags_still = ap (λ (v : Held). tags_by_id v.nodes v.live) (held_still old.file file before mid first)
+        ∙ ap (λ (hits : List Hit). tags_of objects hits) (searched.answer sound).hits
 
     same : IsSoundOn s old.file before → text show a.reply ≡ text show (hits_reply objects (scan_answers s asked objects.points))
     same sound = ap (λ (x : Answer). text show x.reply) shown.is
         ∙ same_text show found.hits (scan_answers s asked objects.points) shown.tags (tags_of objects (scan_answers s asked objects.points)) (searched.answer sound).hits (own_tags sound)
-
--- ---- what was found, with its tags or without
-
-cause_then : {S T : Type 0} (before mid after : DiskState) (why : SessionStop) → before.faults ≤ mid.faults → (S → T) → HasStepCause T mid after why → HasStepCause S before after why
-cause_then before mid after stop.Disk later kept rose = rose_before before.faults mid.faults after.faults later rose
-cause_then before mid after (stop.Damaged f) later kept cause = (cause.0, λ sound. cause.1 (kept sound))
-cause_then before mid after stop.Memory later kept cause = tt
-cause_then before mid after stop.Sink later kept cause = absurd cause
-
-pub found_stepped : {M : Type 0} (space : M → Space) (show : Bool) (old new : OpenIndex M) (file : OpenFile M) (cursors : OpenCursors) (before mid after : DiskState) (c : Command) (asked : Query) (found : Found)
-    (result : Result Answer SessionStop) → IsValidFile (space old.file.metric).dimension old.file → StandsAlone old before → new.stopped ≡ false → OnlyReads old.file file before mid → OnlyReads file new.file mid after →
-    HasSearched (space old.file.metric) old.file asked before mid (Ok found) → IfOk result (IsShownAs (space file.metric) show file found mid) →
-    IfErr result (HasStepCause (IsSoundOn (space file.metric) file mid) mid after) → after.reads ≤ mid.reads + (if show then length found.log.records else 0) → IfErr result (StandsBy file.head after) → answered_query (space old.file.metric) c ≡ Some asked →
-    step (setting_of (space old.file.metric) old.file) (state_on old.file before cursors) c ≡ record {
-      reply = hits_reply (state_on old.file before cursors).objects (scan_answers (space old.file.metric) asked (points_on old.file before));
-      state = state_on old.file before cursors;
-    } → HasStepped (space old.file.metric) show old new cursors cursors before after c result
-found_stepped {M} space show old new file cursors before mid after c asked found (Ok a) valid alone going first second searched shown cause few stands answered meaning =
-    query_stepped (space old.file.metric) show old new file cursors before mid after c asked found a valid alone going first second searched
-    (subst (λ (m : M). IsShownAs (space m) show file found mid a) (ap (λ (f : OpenFile M). f.metric) first.rest) shown) few answered meaning
-found_stepped {M} space show old new file cursors before mid after c asked found (Err why) valid alone going first second searched shown cause few stands answered meaning =
-    read_stopped (space old.file.metric) show old new cursors cursors before after c why valid alone (reads_both old.file file new.file before mid after first second)
-    (cause_then before mid after why first.later (λ sound. sound_still (space old.file.metric) old.file file before mid first sound)
-    (subst (λ (m : M). HasStepCause (IsSoundOn (space m) file mid) mid after why) (ap (λ (f : OpenFile M). f.metric) first.rest) cause))
-    (subst (λ (f : OpenFile M). StandsBy f.head after why) first.rest stands)
 
 -- a search that was refused
 pub range_fault : {M : Type 0} (s : Space) (show : Bool) (old new : OpenIndex M) (cursors : OpenCursors) (before after : DiskState) (c : Command) (q : List ℕ) (r : ℕ) (why : IndexFault) →

@@ -273,7 +273,7 @@ module _ {M : Type 0} (s : Space) (show : Bool) (asked : ℕ → List Command) (
       (subst (λ (x : Space). HasStopCause (IsSoundOn x old.file disk0) disk0 disk1 out0 out1 log0 log1 why) same (rw is at cause)) is_known sound
 
   -- few pages were read
-  pub few_read : ended ≡ None → IsTrue disk0.is_known → IsSoundTree (space_of old.file.head) (nodes_on old.file disk0) old.file.live → AllByRecursion IsAsking (asked old.file.head.dim) → ReadsFew 0 show disk0 disk1 log0 log1
+  pub few_read : ended ≡ None → IsTrue disk0.is_known → IsSoundTree (space_of old.file.head) (nodes_on old.file disk0) old.file.live → AllByRecursion IsAsking (asked old.file.head.dim) → ReadsFew 0 disk0 disk1 log0 log1
   few_read is is_known sound asks = record {
     logs = logs_of (answers_of ran.turns);
     logged = subst (λ (l : List ℕ). Appends log0.written log1.written l) (append-nil (framed (logs_of (answers_of ran.turns))))
@@ -470,9 +470,9 @@ module _ {M : Type 0} (kind_of dim_of : M → ℕ) (one : OneLiveSlot) (show : B
 
   pub reads_since : disk1.reads ≤ disk0.reads + 3 → disk2.reads ≡ disk1.reads →
       (status ≡ 0 → IsTrue disk2.is_known → kind_of index.file.metric ≡ index.file.head.kind → dim_of index.file.metric ≡ index.file.head.dim → IsSoundTree (space_of index.file.head) (nodes_on index.file disk2) index.file.live →
-      AllByRecursion IsAsking (asked index.file.head.dim) → ReadsFew 0 show disk2 disk3 log0 log1) → ReadsAsked show asked disk0 disk3 log0 log1 status
+      AllByRecursion IsAsking (asked index.file.head.dim) → ReadsFew 0 disk2 disk3 log0 log1) → ReadsAsked asked disk0 disk3 log0 log1 status
   reads_since first second run zero is_known head live sound asks =
-      let few = said_before (λ dim. AllByRecursion IsAsking (asked dim)) (λ h l f. ReadsFew 0 show disk2 disk3 log0 log1) head live is_known sound asks (run zero) in
+      let few = said_before (λ dim. AllByRecursion IsAsking (asked dim)) (λ h l f. ReadsFew 0 disk2 disk3 log0 log1) head live is_known sound asks (run zero) in
       record { logs = few.logs; logged = few.logged; reads = let r = few.reads in omega (arith, first, second, r) }
 
 -- what ended it
@@ -568,13 +568,13 @@ unread_complete (Some bytes) (Some rest) disk Failed Others Long status takes fa
 -- ---- a script that was read whole
 
 pub ran_session : (show : Bool) (input rest : Option (List ℕ)) (bytes read : List ℕ) (disk0 disk1 : DiskState) (out0 out1 log0 log1 : SinkState) (status : ℕ) → Consumes input rest bytes → IsAtEnd rest → read ≡ bytes →
-    RunsScript show read disk0 disk1 out0 out1 log0 log1 status → ReadsScript show read disk0 disk1 log0 log1 status → HasRefused disk0 disk1 out0 out1 log0 log1 status →
+    RunsScript show read disk0 disk1 out0 out1 log0 log1 status → ReadsScript read disk0 disk1 log0 log1 status → HasRefused disk0 disk1 out0 out1 log0 log1 status →
     RunsSession show input disk0 disk1 out0 out1 log0 log1 status
 ran_session show input rest bytes read disk0 disk1 out0 out1 log0 log1 status taken end same runs reads refused = record {
   runs = weaker input (λ xs. bytes ≡ xs) (λ xs. RunsScript show xs disk0 disk1 out0 out1 log0 log1 status)
       (λ xs is. subst (λ (b : List ℕ). RunsScript show b disk0 disk1 out0 out1 log0 log1 status) (same ∙ is) runs) (read_whole input rest bytes taken end);
-  reads = weaker input (λ xs. bytes ≡ xs) (λ xs. ReadsScript show xs disk0 disk1 log0 log1 status)
-      (λ xs is. subst (λ (b : List ℕ). ReadsScript show b disk0 disk1 log0 log1 status) (same ∙ is) reads) (read_whole input rest bytes taken end);
+  reads = weaker input (λ xs. bytes ≡ xs) (λ xs. ReadsScript xs disk0 disk1 log0 log1 status)
+      (λ xs is. subst (λ (b : List ℕ). ReadsScript b disk0 disk1 log0 log1 status) (same ∙ is) reads) (read_whole input rest bytes taken end);
   disk = refused.disk;
   not_index = refused.not_index;
   damaged = refused.damaged;

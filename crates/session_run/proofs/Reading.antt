@@ -20,7 +20,7 @@ use Rattle.index_core.specs.Writing.{HasObjects}
 use Rattle.index_core.proofs.Published.{holds, has_still}
 use Rattle.session_run.specs.declared.answer.Answer.{Answer}
 use Rattle.session_run.specs.declared.stop.SessionStop.{SessionStop}
-use Rattle.session_run.specs.Session.{HoldsState, IsAsking, StandsBy, most_read, setting_of, state_on}
+use Rattle.session_run.specs.Session.{HoldsState, IsAsking, StandsBy, records_in, setting_of, state_on}
 use Rattle.session_run.specs.Steps.{HasStepCause, HasStepped, HoldsOne, IsTaken}
 use Rattle.answer_texts.specs.Answered.{if_any}
 use Rattle.answer_texts.specs.Asked.{Held, HasLog, answered_query}
@@ -58,7 +58,7 @@ pub read_taken : {M : Type 0} (s : Space) (show : Bool) (index : OpenIndex M) (n
     IsValidFile s.dimension index.file → StandsAlone index before → OnlyReads index.file new before after → IsSoundOn s index.file before →
     hindered why (state_on index.file before opened) (step (setting_of s index.file) (state_on index.file before opened) c) ≡ record { reply = meant; state = state_on index.file before cursors } →
     accepts meant ≡ false → IsHindrance s index.file.head (held_on index.file before) c why → HasLog s (held_on index.file before) (answered_query s c) a.log → text show a.reply ≡ text show meant →
-    (IsAsking c → after.reads ≤ before.reads + most_read show (if_any a.log)) → IsTaken s show index.file new opened cursors before after c a
+    (IsAsking c → after.reads ≤ before.reads + records_in (if_any a.log)) → IsTaken s show index.file new opened cursors before after c a
 read_taken s show index new opened cursors before after c a why meant valid alone reads sound meaning none hindrance logged same few = let old = index.file in record {
   turn = record { answered = record { command = c; reply = meant; log = a.log }; why = why; state = state_on new after cursors; file = held_on new after };
   is = record {

@@ -1,5 +1,5 @@
 -- A session, turn by turn.
-use Rattle.std.proofs.Common.{◌≡◌, ◌⊎◌, ℕ, suc, ◌+◌, ◌≤◌, ◌<◌, Bool, true, false, List, [], ◌∷◌, ◌++◌, length, drop, get_or, inl, inr, refl, sym, ap, subst, ◌∙◌, arith, append_assoc, length-append, Some, None, Result}
+use Rattle.std.proofs.Common.{◌≡◌, ◌⊎◌, ℕ, suc, ◌+◌, ◌≤◌, ◌<◌, Bool, List, [], ◌∷◌, ◌++◌, length, drop, get_or, inl, inr, refl, sym, ap, subst, ◌∙◌, arith, append_assoc, length-append, Some, None, Result}
 use Rattle.std.specs.List.{AllByRecursion, AllZip, concat}
 use Rattle.std.specs.Io.KnownBytes.{Appends}
 use Rattle.std.proofs.KnownBytes.{Appends-nil, Appends-trans}
@@ -28,7 +28,7 @@ use Rattle.session_run.specs.declared.pinned.PinnedCursors.{PinnedCursors}
 use Rattle.session_run.specs.declared.stop.SessionStop.{SessionStop}
 use Rattle.session_run.specs.declared.stop.SessionStop.TheVariants as stop
 use Rattle.session_run.specs.Pinned.{GoesOn, StandsFor}
-use Rattle.session_run.specs.Session.{Ends, Grew, HasRun, HasStopCause, HoldsNext, HoldsSome, HoldsState, IsAsking, IsCutShort, most_read, no_cursors, records_in, setting_of, state_on}
+use Rattle.session_run.specs.Session.{Ends, Grew, HasRun, HasStopCause, HoldsNext, HoldsSome, HoldsState, IsAsking, IsCutShort, no_cursors, records_in, setting_of, state_on}
 use Rattle.session_run.specs.Steps.{HasTurned, HoldsEither, HoldsOne, IsPartlyPut, IsPut, IsStoppedAt}
 use Rattle.session_run.specs.Turns.{AreTurns, IsTurn, Turn, answers_of, file_after, state_after, held_on}
 use Rattle.session_run.proofs.Reading.{objects_on}
@@ -70,17 +70,12 @@ holds_last setting head state [] image holds = holds
 holds_last setting head state (u ∷ turns) image holds = inr (holds_last setting head u.state turns image holds)
 
 -- ---- what is read
-none_read : (show : Bool) (reads : ℕ) → reads ≤ reads + most_read show []
-none_read true reads = omega arith
-none_read false reads = omega arith
-
 records_both : (first second : List Log) → records_in (first ++ second) ≡ records_in first + records_in second
 records_both [] second = omega arith
 records_both (log ∷ first) second = let more = records_both first second in omega (arith, more)
 
-read_more : (show : Bool) (first second : List Log) (before mid after : ℕ) → mid ≤ before + most_read show first → after ≤ mid + most_read show second → after ≤ before + most_read show (first ++ second)
-read_more true first second before mid after one two = let both = records_both first second in omega (arith, both, one, two)
-read_more false first second before mid after one two = let both = records_both first second in omega (arith, both, one, two)
+read_more : (first second : List Log) (before mid after : ℕ) → mid ≤ before + records_in first → after ≤ mid + records_in second → after ≤ before + records_in (first ++ second)
+read_more first second before mid after one two = let both = records_both first second in omega (arith, both, one, two)
 
 asks_both : (turns : List Turn) (t : Turn) → AllByRecursion IsAsking (commands_of (answers_of (turns ++ t ∷ []))) → AllByRecursion IsAsking (commands_of (answers_of turns)) × IsAsking t.answered.command
 asks_both [] t asks = (tt, asks.0)
@@ -109,7 +104,7 @@ module _ {M : Type 0} (s : Space) (show : Bool) (old : OpenIndex M) (disk0 : Dis
     pub written : Appends out0.written out1.written (concat (texts_of show (answers_of turns)))
     pub logged : Appends log0.written log1.written (framed (logs_of (answers_of turns)))
     pub goes : GoesOn s new disk1 pinned cursors
-    pub reads : AllByRecursion IsAsking (commands_of (answers_of turns)) → disk1.reads ≤ disk0.reads + most_read show (logs_of (answers_of turns))
+    pub reads : AllByRecursion IsAsking (commands_of (answers_of turns)) → disk1.reads ≤ disk0.reads + records_in (logs_of (answers_of turns))
     pub moments : EachImage disk0 disk1 (HoldsSome setting old.file.head state0 turns)
 
   pub begun : (pinned : PinnedCursors) → pinned.cursors.items ≡ [] → pinned.next ≡ 0 → IsValidFile s.dimension old.file → StandsAlone old disk0 → IsSoundOn s old.file disk0 →
@@ -128,7 +123,7 @@ module _ {M : Type 0} (s : Space) (show : Bool) (old : OpenIndex M) (disk0 : Dis
       sound = sound;
       cursors = record { each = subst (λ (l : List PinnedCursor). AllZip (StandsFor s old disk0.bytes) l []) (sym none) tt; next = sym first };
     };
-    reads = λ asks. none_read show disk0.reads;
+    reads = λ asks. omega arith;
     moments = started disk0 (HoldsSome setting old.file.head state0 []) (λ image left.
         subst (λ (file : List ℕ). HoldsState s old.file.head state0 file) (sym (alone.only sound.0 image left)) (holds s old.file disk0 _ _ valid alone.stands (objects_on s old.file disk0 sound)));
   }
@@ -162,7 +157,7 @@ module _ {M : Type 0} (s : Space) (show : Bool) (old : OpenIndex M) (disk0 : Dis
       reads = λ asks.
           let both = asks_both so_far.turns put.turn asks in
           rw (logs_more so_far.turns put.turn)
-          (read_more show (logs_of (answers_of so_far.turns)) (if_any put.turn.answered.log) disk0.reads disk1.reads disk2.reads (so_far.reads both.0) (put.reads (subst IsAsking put.command both.1)));
+          (read_more (logs_of (answers_of so_far.turns)) (if_any put.turn.answered.log) disk0.reads disk1.reads disk2.reads (so_far.reads both.0) (put.reads (subst IsAsking put.command both.1)));
       moments = joined disk0 disk1 disk2 (HoldsSome setting old.file.head state0 (so_far.turns ++ put.turn ∷ []))
           (weakened disk0 disk1 (HoldsSome setting old.file.head state0 so_far.turns) (HoldsSome setting old.file.head state0 (so_far.turns ++ put.turn ∷ [])) so_far.moments
           (λ image holds. holds_more setting old.file.head state0 so_far.turns put.turn image holds))

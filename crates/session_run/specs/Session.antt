@@ -1,5 +1,5 @@
 -- What a session of commands on an index does and writes, and what a crash in it may leave.
-use Rattle.std.specs.Prelude.{◌≡◌, ◌⊎◌, ℕ, ◌+◌, ◌*◌, ◌≤◌, Bool, List, [], ◌∷◌, ◌++◌, length, Option, Some, None, IsTrue, if◌then◌else◌}
+use Rattle.std.specs.Prelude.{◌≡◌, ◌⊎◌, ℕ, ◌+◌, ◌≤◌, Bool, List, [], ◌∷◌, ◌++◌, length, Option, Some, None, IsTrue}
 use Rattle.std.specs.List.{AllByRecursion, concat}
 use Rattle.std.specs.Io.KnownBytes.{Appends}
 use Rattle.metric_laws.specs.Space.{Space}
@@ -94,13 +94,10 @@ abbrev pub records_in : List Log → ℕ
 records_in [] = 0
 records_in (log ∷ logs) = length log.records + records_in logs
 
--- the most pages read for the logs: each once for the hits, and once more for their tags where they are shown
-abbrev pub most_read : Bool → List Log → ℕ
-most_read show logs = if show then 2 * records_in logs else records_in logs
-
 -- What a session of `commands` does on a sound file. The first commands are acknowledged: each is a turn, whose log frame is put and
 -- then its reply, whole. At every moment a crash leaves the objects after some of the commands; at the end it leaves those after all
--- acknowledged ones, or after one command more. Where all commands only ask, at most `most_read` pages were read.
+-- acknowledged ones, or after one command more. Where all commands only ask, each opened page was read at most once, whether tags are
+-- shown or not.
 pub record HasRun (setting : Setting) (head : Head) (show : Bool) (commands : List Command) (state : State) (file : Held)
     (disk0 disk1 : DiskState) (out0 out1 log0 log1 : SinkState) (acknowledged : ℕ) (stopped : Option SessionStop) (left : Held) : Type 0 where
   pub turns : List Turn
@@ -114,7 +111,7 @@ pub record HasRun (setting : Setting) (head : Head) (show : Bool) (commands : Li
   pub written : Appends out0.written out1.written (concat (texts_of show (answers_of turns)) ++ rest)
   pub logged : Appends log0.written log1.written (framed (logs_of (answers_of turns)) ++ log_rest)
   pub last : stopped ≡ None → left ≡ file_after file turns
-  pub reads : stopped ≡ None → AllByRecursion IsAsking commands → disk1.reads ≤ disk0.reads + most_read show (logs_of (answers_of turns))
+  pub reads : stopped ≡ None → AllByRecursion IsAsking commands → disk1.reads ≤ disk0.reads + records_in (logs_of (answers_of turns))
   pub moments : EachImage disk0 disk1 (λ image. HoldsSome setting head state turns image ⊎ HoldsNext setting head (state_after state turns) more image)
   pub remains : (image : List ℕ) → MayLeave disk1 image →
       HoldsState setting.space head (state_after state turns) image ⊎ HoldsNext setting head (state_after state turns) more image

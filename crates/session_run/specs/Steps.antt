@@ -1,5 +1,5 @@
 -- What one command of a session does.
-use Rattle.std.specs.Prelude.{◌≡◌, ◌⊎◌, ℕ, ◌+◌, ◌≤◌, List, length, Bool, true, false, IsTrue, Some, None, MatchOption, Result, Ok, Err, IfOk, IfErr, OnOk, OnErr}
+use Rattle.std.specs.Prelude.{◌≡◌, ◌⊎◌, ℕ, ◌+◌, ◌≤◌, List, length, Bool, true, false, Some, None, MatchOption, Result, Ok, Err, IfOk, IfErr, OnOk, OnErr}
 use Rattle.metric_laws.specs.Space.{Space}
 use Rattle.std.specs.Io.KnownBytes.{Appends}
 use Rattle.outside_io.specs.Causes.{Rose}
@@ -13,15 +13,18 @@ use Rattle.node_page.specs.declared.head.Head.{Head}
 use Rattle.rows_text.specs.Meaning.{Holdings, State, TagsAre, close_from, cursor_named, next_from, step}
 use Rattle.rows_text.specs.Texts.{text}
 use Rattle.plain_scan.specs.OpenCursors.{OpenCursors, with_cursors}
+use Rattle.tree_shape.specs.declared.live.Live.{Live}
+use Rattle.tree_shape.specs.Tree.{Nodes}
 use Rattle.page_store.specs.declared.pages.PageFault.{PageFault}
 use Rattle.page_store.specs.declared.pages.PageFault.TheVariants as page
 use Rattle.log_model.specs.declared.logs.Found.{Found}
 use Rattle.log_model.specs.Grammar.{IsValidLog}
-use Rattle.hit_tags.specs.Tags.{IsShown, object_tags}
+use Rattle.log_model.specs.Met.{tagged_by}
+use Rattle.hit_tags.specs.Tags.{met_tags}
 use Rattle.answer_texts.specs.Answered.{framed, if_any}
 use Rattle.answer_texts.specs.Put.{IsCut}
 use Rattle.index_core.specs.Answers.{IsSoundOn}
-use Rattle.index_core.specs.Files.{OpenFile, nodes_on}
+use Rattle.index_core.specs.Files.{OpenFile}
 use Rattle.index_core.specs.Index.{OpenIndex}
 use Rattle.index_core.specs.declared.faults.IndexFault.{IndexFault}
 use Rattle.index_core.specs.declared.faults.IndexFault.TheVariants as fault
@@ -31,7 +34,7 @@ use Rattle.session_run.specs.declared.stop.SessionStop.{SessionStop}
 use Rattle.session_run.specs.declared.stop.SessionStop.TheVariants as stop
 use Rattle.session_run.specs.Turns.{Turn, IsTurn, held_on}
 use Rattle.session_run.specs.Pinned.{AllGoThrough, AreKeptBy, CanGoOn, GoesOn, StandFor}
-use Rattle.session_run.specs.Session.{Grew, HasStopCause, HoldsState, IsAsking, IsDamage, StandsBy, most_read, setting_of, state_on}
+use Rattle.session_run.specs.Session.{Grew, HasStopCause, HoldsState, IsAsking, IsDamage, StandsBy, records_in, setting_of, state_on}
 
 -- an answer without a log
 abbrev pub plain_answer : Reply → Answer
@@ -88,7 +91,7 @@ pub record IsTaken {M : Type 0} (s : Space) (show : Bool) (old new : OpenFile M)
   pub log : turn.answered.log ≡ answer.log
   pub same_text : text show answer.reply ≡ text show turn.answered.reply
   pub moments : EachImage before after (HoldsOne s old.head (state_on old before opened) turn.state)
-  pub reads : IsAsking c → after.reads ≤ before.reads + most_read show (if_any turn.answered.log)
+  pub reads : IsAsking c → after.reads ≤ before.reads + records_in (if_any turn.answered.log)
 
 -- What one command does to the index. On a sound file it is a turn. Where it ends the session, a crash leaves the objects before or
 -- after.
@@ -149,11 +152,12 @@ pub record HasClosed {M : Type 0} (s : Space) (index : OpenIndex M) (bytes : Lis
       }
 
 -- what was found is answered with its tags, where they are shown, and with its log
-pub record IsShownAs {M : Type 0} (s : Space) (show : Bool) (file : OpenFile M) (found : Found) (disk : DiskState) (answer : Answer) : Type 0 where
+pub record IsShownAs (show : Bool) (found : Found) (answer : Answer) : Type 0 where
   pub tags : List ℕ
   pub is : answer ≡ record { reply = reply.Hits found.hits tags; log = Some found.log }
   pub each : show ≡ true → length tags ≡ length found.hits
-  pub objects : show ≡ true → IsTrue disk.is_known → IsShown s (nodes_on file disk) file.live found → tags ≡ object_tags (nodes_on file disk) file.live found
+  pub met : show ≡ true → (s : Space) (q : List ℕ) (nodes : Nodes) (live : Live) → found.tagged ≡ tagged_by s q nodes live.root found.log.records →
+      tags ≡ met_tags nodes live found
 
 -- a turn was put: the reply's text, and before it the frame of its log
 pub record IsPut {M : Type 0} (s : Space) (show : Bool) (old new : OpenFile M) (opened cursors : OpenCursors) (before after : DiskState) (c : Command)
@@ -166,7 +170,7 @@ pub record IsPut {M : Type 0} (s : Space) (show : Bool) (old new : OpenFile M) (
   pub written : Appends out0.written out1.written (text show turn.answered.reply)
   pub logged : Appends log0.written log1.written (framed (if_any turn.answered.log))
   pub moments : EachImage before after (HoldsOne s old.head (state_on old before opened) turn.state)
-  pub reads : IsAsking c → after.reads ≤ before.reads + most_read show (if_any turn.answered.log)
+  pub reads : IsAsking c → after.reads ≤ before.reads + records_in (if_any turn.answered.log)
 
 -- a turn was put in part
 pub record IsPartlyPut {M : Type 0} (s : Space) (show : Bool) (old : OpenFile M) (opened : OpenCursors) (before : DiskState) (c : Command)

@@ -73,7 +73,7 @@ fn run_opened<W: Crew<MixSpace>, S: Requests, D: Disk, K: Sink, T: Sink>(
         mix_kind opened.old.file.metric ≡ opened.old.file.head.kind → mix_dim opened.old.file.metric ≡ opened.old.file.head.dim →
         IsSoundTree (space_of opened.old.file.head) (nodes_on opened.old.file (D.state index.old)) opened.old.file.live →
         AllByRecursion IsAsking (S.commands requests opened.old.file.head.dim) →
-        ReadsFew 0 show_tags (D.state index.old) (D.state index.new) (T.state log_out.old) (T.state log_out.new) }
+        ReadsFew 0 (D.state index.old) (D.state index.new) (T.state log_out.old) (T.state log_out.new) }
     ensures finished { HasFinished opened.old.file.head (D.state index.old) (D.state index.new) (K.state out.old) (K.state out.new)
         (T.state log_out.old) (T.state log_out.new) result.0 }
     ensures later { (D.state index.old).faults ≤ (D.state index.new).faults }
@@ -112,7 +112,7 @@ pub fn run_requests<W: Crew<MixSpace>, S: Requests, D: Disk, K: Sink, T: Sink>(
     requires many { workers ≤ 64 }
     ensures runs { RunsAsked show_tags (S.commands requests) (D.state index.old) (D.state index.new) (K.state out.old) (K.state out.new)
         (T.state log_out.old) (T.state log_out.new) result.0 }
-    ensures reads { ReadsAsked show_tags (S.commands requests) (D.state index.old) (D.state index.new)
+    ensures reads { ReadsAsked (S.commands requests) (D.state index.old) (D.state index.new)
         (T.state log_out.old) (T.state log_out.new) result.0 }
     ensures ends { HasRefused (D.state index.old) (D.state index.new) (K.state out.old) (K.state out.new)
         (T.state log_out.old) (T.state log_out.new) result.0 }
