@@ -22,6 +22,7 @@ use Rattle.page_store.specs.Files.{nodes_in, points_in, tags_in}
 use Rattle.page_store.specs.Reading.{nodes_of, reading}
 use Rattle.page_store.specs.Shelf.{Shelf, IsDamage, IsPassing}
 use Rattle.log_model.specs.declared.logs.Found.{Found}
+use Rattle.log_model.specs.Grammar.{query_point}
 use Rattle.log_model.specs.Laws.{scan_answers}
 use Rattle.log_model.specs.Met.{met, tagged_by}
 use Rattle.log_model.specs.Sound.{IsLeastLog, IsLogOf}
@@ -62,7 +63,7 @@ module _ (s : Space) (live : Live) (image : List ℕ) (c : Command) (asked : Que
 
   -- the answer
   module _ (found : Found) (follows : FollowsWalk s nodes live asked found.log) (named : IsLogOf live asked found) (least : Sound → IsLeastLog s nodes live asked found.log)
-      (scanned : Sound → found.hits ≡ scan_answers s asked (points_in s.dimension live image)) (q : List ℕ) (met_by : found.tagged ≡ tagged_by s q nodes live.root found.log.records)
+      (scanned : Sound → found.hits ≡ scan_answers s asked (points_in s.dimension live image)) (met_by : found.tagged ≡ tagged_by s (query_point asked) nodes live.root found.log.records)
       (meaning : (limit : ℕ) → reply_in s held limit c ≡ hits_reply (state_of held).objects (scan_answers s asked (points_in s.dimension live image))) where
     answer_is : (tags : List ℕ) → length tags ≡ length found.hits → tags ≡ met_tags nodes live found → IsOutcomeOf s live image c (outcome.Done (reply.Hits found.hits tags) (Some found.log))
     answer_is tags each are_met = record {
@@ -71,7 +72,7 @@ module _ (s : Space) (live : Live) (image : List ℕ) (c : Command) (asked : Que
         logged = subst (λ (q : Option Query). HasLog s held q (Some found.log)) (sym answers) (least sound);
       };
       told = subst (λ (q : Option Query). IsTold s live image c q (outcome.Done (reply.Hits found.hits tags) (Some found.log))) (sym answers)
-          (record { tagged = found.tagged; named = named; walk = follows; tags_are = are_met });
+          (record { tagged = found.tagged; met = met_by; named = named; walk = follows; tags_are = are_met });
       valid = (each, named.valid);
     }
       where
@@ -89,7 +90,7 @@ module _ (s : Space) (live : Live) (image : List ℕ) (c : Command) (asked : Que
 
     pub found_is : (wanted : Bool) (o : Outcome) → IsTagged wanted found o → IsGivenOf wanted s live image c o
     found_is false o untagged = (outcome.Done (reply.Hits found.hits unseen) (Some found.log), answer_is unseen unseen_each refl, untagged)
-    found_is true o tagged = (o, subst (IsOutcomeOf s live image c) (sym tagged.1) (answer_is tagged.0 tagged.2.each (tagged.2.met s q nodes live met_by)), refl)
+    found_is true o tagged = (o, subst (IsOutcomeOf s live image c) (sym tagged.1) (answer_is tagged.0 tagged.2.each (tagged.2.met s (query_point asked) nodes live met_by)), refl)
 
     pub found_if_ok : (wanted : Bool) {E : Type 0} (r : Result Outcome E) → IfOk r (IsTagged wanted found) → IfOk r (IsGivenOf wanted s live image c)
     found_if_ok wanted (Ok o) tagged = found_is wanted o tagged
@@ -152,7 +153,7 @@ module _ (s : Space) (live : Live) (image : List ℕ) (q : List ℕ) (is_point :
       subst (λ (x : Shelf). IsTrue x.is_known → IsLeastLog s (nodes_of x.read) live (query.Range q r) found.log) begins is_found.least refl in
       found_if_ok s live image (command.Range r q) (query.Range q r) (rw is_point refl) found least is_found.log (λ sound. least)
       (subst (λ (x : Shelf). IsTrue x.is_known → IsSoundTree s (nodes_of x.read) live → found.hits ≡ range_hits s (points_by_id (nodes_of x.read) live) q r) begins scanned refl)
-      q (image_met found met_by) (λ limit. rw is_point refl) wanted result tagged
+      (image_met found met_by) (λ limit. rw is_point refl) wanted result tagged
 
   pub nearest_found : (wanted : Bool) (k : ℕ) (found : Found) → IsLogOf live (query.Nearest q k) found → (IsTrue old.is_known → IsFront s (nodes_of old.read) live q k found.log) →
       (IsTrue old.is_known → IsSoundTree s (nodes_of old.read) live → IsNearest s (nodes_of old.read) live q k old mid found) →
@@ -163,7 +164,7 @@ module _ (s : Space) (live : Live) (image : List ℕ) (q : List ℕ) (is_point :
       subst (λ (x : Shelf). IsTrue x.is_known → IsSoundTree s (nodes_of x.read) live → IsNearest s (nodes_of x.read) live q k x mid found) begins nearest refl in
       found_if_ok s live image (command.Nearest k q) (query.Nearest q k) (rw is_point refl) found
       (subst (λ (x : Shelf). IsTrue x.is_known → IsFront s (nodes_of x.read) live q k found.log) begins front refl)
-      named (λ sound. (by_image sound).least) (λ sound. (by_image sound).scanned) q (image_met found met_by) (λ limit. rw is_point refl) wanted result tagged
+      named (λ sound. (by_image sound).least) (λ sound. (by_image sound).scanned) (image_met found met_by) (λ limit. rw is_point refl) wanted result tagged
 
   pub range_fault : (wanted : Bool) (r : ℕ) (f : PageFault) → HasWalkCause (search_at s q (min r bound)) live old mid f → (IsTrue old.is_known → IsSoundTree s (nodes_of old.read) live → IsPassing f) →
       IfOk (outcome_of_fault f) (IsGivenOf wanted s live image (command.Range r q))

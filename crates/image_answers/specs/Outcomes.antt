@@ -25,7 +25,7 @@ use Rattle.page_store.specs.Shelves.{image_shelf}
 use Rattle.log_model.specs.declared.logs.Log.{Log}
 use Rattle.log_model.specs.declared.logs.Found.{Found}
 use Rattle.log_model.specs.declared.tagged.TaggedHit.{TaggedHit}
-use Rattle.log_model.specs.Grammar.{IsValidLog}
+use Rattle.log_model.specs.Grammar.{query_point, IsValidLog}
 use Rattle.log_model.specs.Met.{tagged_by}
 use Rattle.log_model.specs.Sound.{IsLeastLog, IsLogOf}
 use Rattle.log_model.specs.Walk.{search_at}
@@ -76,10 +76,11 @@ abbrev pub FollowsWalk : Space → Nodes → Live → Query → Log → Type 0
 FollowsWalk s nodes live (query.Range q r) log = IsLeastLog s nodes live (query.Range q r) log
 FollowsWalk s nodes live (query.Nearest q k) log = IsFront s nodes live q k log
 
--- the answer to a query: its log, the hits of the log, and the tags that the walk of the log meets for them
+-- the answer to a query: its log, the objects that the walk of the log meets, the hits of the log, and the tags that the walk meets for
+-- them
 pub record IsAnswer (s : Space) (live : Live) (image : List ℕ) (asked : Query) (hits : List Hit) (tags : List ℕ) (log : Log) : Type 0 where
-  -- the objects that the walk of the log meets
   pub tagged : List TaggedHit
+  pub met : tagged ≡ tagged_by s (query_point asked) (nodes_in s.dimension live image) live.root log.records
   pub named : IsLogOf live asked (record { hits = hits; tagged = tagged; log = log })
   pub walk : FollowsWalk s (nodes_in s.dimension live image) live asked log
   pub tags_are : tags ≡ met_tags (nodes_in s.dimension live image) live (record { hits = hits; tagged = tagged; log = log })
