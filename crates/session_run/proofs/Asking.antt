@@ -32,7 +32,6 @@ use Rattle.index_core.specs.Files.{IsValidFile, OnlyReads, nodes_on, pages_on}
 use Rattle.index_core.specs.Index.{OpenIndex, StandsAlone}
 use Rattle.session_run.specs.declared.answer.Answer.{Answer}
 use Rattle.session_run.specs.declared.stop.SessionStop.{SessionStop}
-use Rattle.session_run.specs.declared.stop.SessionStop.TheVariants as stop
 use Rattle.session_run.specs.Session.{IsDamage, records_in, setting_of, state_on}
 use Rattle.session_run.specs.Steps.{HasStepCause, HasStepped, IsShownAs, answer_of_fault}
 use Rattle.answer_texts.specs.Answered.{if_any}

@@ -31,7 +31,7 @@ pub objects_on : {M : Type 0} (s : Space) (file : OpenFile M) (disk : DiskState)
 objects_on s file disk sound = record { is_known = sound.0; sound = sound.1; points_are = refl; tags_are = refl }
 
 -- a call that only reads leaves what the file holds
-pub held_still : {M : Type 0} (old new : OpenFile M) (before after : DiskState) → OnlyReads old new before after → held_on new after ≡ held_on old before
+held_still : {M : Type 0} (old new : OpenFile M) (before after : DiskState) → OnlyReads old new before after → held_on new after ≡ held_on old before
 held_still {M} old new before after reads =
     ap (λ (file : OpenFile M). held_on file after) reads.rest
     ∙ ap (λ (bytes : List ℕ). (let v : Held = record { nodes = nodes_of (reading old.head.dim old.live.pages bytes); live = old.live } in v)) reads.same.same_bytes

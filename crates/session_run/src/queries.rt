@@ -20,7 +20,11 @@ use std::alloc::{AllocError, Global};
 fn found_answer(alloc: Global, show: bool, found: Found) -> Result<Answer, AllocError>
     ensures { IfOk result (IsShownAs show found) }
 {
-    let tags = if show { found_tags(alloc, &found)? } else { Vec::new(alloc) };
+    let tags = if show {
+        found_tags(alloc, &found)?
+    } else {
+        Vec::new(alloc)
+    };
     Ok(Answer {
         reply: Reply::Hits {
             hits: found.hits,

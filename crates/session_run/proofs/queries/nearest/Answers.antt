@@ -3,19 +3,17 @@ use Rattle.rows_text.specs.declared.command.Command.TheVariants as command
 use Rattle.scan_model.specs.declared.query.Query.TheVariants as query
 use Rattle.index_core.specs.Answers.{HasSearched}
 use Rattle.index_core.specs.Index.{OpenIndex}
-use Rattle.session_run.proofs.Asking.{found_stepped, reach_fault}
+use Rattle.session_run.proofs.Asking.{query_stepped, reach_fault}
 use Rattle.session_run.proofs.queries.nearest.Goals as goal
 
-pub returns-in-Ok-clause-stepped : goal.returns-in-Ok-clause-stepped
-returns-in-Ok-clause-stepped g c = λ cursors.
-    found_stepped g.M.Metric.space c.args.show c.args.index.now c.found_answer.new.index c.nearest.new.self.file cursors (g.D.Disk.state c.args.disk.now) (g.D.Disk.state c.nearest.new.disk)
-    (g.D.Disk.state c.found_answer.new.disk) (command.Nearest c.args.k c.args.q.now) (query.Nearest c.args.q.now c.args.k) c.in-Ok.found c.found_answer.result
-    c.is_valid.ensures (c.requires.stands c.requires.going)
-    (ap (λ (i : OpenIndex g.row.M.Denot). i.stopped) c.found_answer.ensures.rest ∙ ap (λ (i : OpenIndex g.row.M.Denot). i.stopped) c.nearest.ensures.rest ∙ c.requires.going)
-    c.nearest.ensures.reads c.found_answer.ensures.reads
+pub returns-in_ok-found_answer-in-Ok-clause-stepped : goal.returns-in_ok-found_answer-in-Ok-clause-stepped
+returns-in_ok-found_answer-in-Ok-clause-stepped g c = λ cursors.
+    query_stepped (g.M.Metric.space c.args.index.now.file.metric) c.args.show c.args.index.now c.nearest.new.self cursors (g.D.Disk.state c.args.disk.now) (g.D.Disk.state c.nearest.new.disk)
+    (command.Nearest c.args.k c.args.q.now) (query.Nearest c.args.q.now c.args.k) c.in-Ok.found _ c.is_valid.ensures (c.requires.stands c.requires.going)
+    (ap (λ (i : OpenIndex g.row.M.Denot). i.stopped) c.nearest.ensures.rest ∙ c.requires.going) c.nearest.ensures.reads
     (subst (λ (q : List ℕ). HasSearched (g.M.Metric.space c.args.index.now.file.metric) c.args.index.now.file (query.Nearest q c.args.k) (g.D.Disk.state c.args.disk.now) (g.D.Disk.state c.nearest.new.disk) (Ok c.in-Ok.found))
     c.as_slice.ensures (c.in-Ok.ensures.searched c.requires.going))
-    c.found_answer.ensures.answer c.found_answer.ensures.cause c.found_answer.ensures.few c.found_answer.ensures.damage (rw c.requires.point refl) (rw c.requires.point refl)
+    c.in_ok-found_answer-in-Ok.ensures (rw c.requires.point refl) (rw c.requires.point refl)
 
 pub returns-in-Err-clause-stepped : goal.returns-in-Err-clause-stepped
 returns-in-Err-clause-stepped g c = λ cursors. rw c.answer_of_fault.ensures
