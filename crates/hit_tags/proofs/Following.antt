@@ -1,23 +1,16 @@
 -- The walk from record to record: what it meets, where it ends, and why.
-use Rattle.std.proofs.Common.{◌≡◌, add-one, Bool, ℕ, suc, ◌+◌, ◌-◌, ◌<◌, ◌≤◌, true, false, List, [], ◌∷◌, ◌++◌, length, drop, get_or, reverse, map, Option, Some, Result, Ok, Err, IfOk, refl, sym, ap, subst, ◌∙◌, arith, append_assoc, drop-cons, inr}
-use Rattle.std.specs.Prelude.{IsTrue, IfErr, ◌==◌, not, if◌then◌else◌}
+use Rattle.std.proofs.Common.{◌≡◌, ℕ, suc, ◌+◌, ◌-◌, ◌<◌, ◌≤◌, false, List, ◌∷◌, ◌++◌, length, drop, get_or, reverse, map, Some, Result, Ok, Err, IfOk, refl, sym, ap, subst, ◌∙◌, arith, append_assoc, drop-cons, inr}
+use Rattle.std.specs.Prelude.{IsTrue, IfErr}
 use Rattle.std.proofs.lemmas.List.{append-nil, length-drop}
-use Rattle.std.proofs.lemmas.Bool.Decides.{nat_tests}
 use Rattle.metric_laws.specs.Counts.{next_count, count_up, CountsUpTo}
 use Rattle.tree_shape.specs.declared.entry.LeafEntry.{LeafEntry}
-use Rattle.tree_shape.specs.declared.entry.InnerEntry.{InnerEntry}
 use Rattle.tree_shape.specs.declared.entry.Node.{Node}
-use Rattle.tree_shape.specs.declared.entry.Node.TheVariants.{Leaf, Inner}
 use Rattle.tree_shape.specs.Tree.{Nodes}
 use Rattle.page_store.specs.declared.pages.PageFault.{PageFault}
 use Rattle.page_store.specs.declared.pages.PageFault.TheVariants.{Disk, Bad, Outside, Memory, Repeats, Level}
 use Rattle.page_store.specs.Reading.{Read, IsWithin, is_within, nodes_of}
 use Rattle.page_store.specs.Shelf.{Shelf, HoldsSame, HasPageCause}
-use Rattle.log_model.specs.declared.marks.Mark.{Mark}
-use Rattle.log_model.specs.declared.marks.Mark.TheVariants.{Skip, Far, Near}
 use Rattle.log_model.specs.declared.marks.Record.{Record}
-use Rattle.log_model.specs.Walk.{near_ones}
-use Rattle.log_model.specs.Counts.{entry_count}
 use Rattle.log_model.proofs.Published.{count_up_both, map-append}
 use Rattle.hit_tags.specs.declared.walking.Walk.{Walk}
 use Rattle.log_model.specs.Met.{near_objects, near_pages, marked_node, met}

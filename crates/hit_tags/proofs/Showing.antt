@@ -30,7 +30,7 @@ use Rattle.log_model.specs.declared.marks.Need.{Need}
 use Rattle.log_model.specs.declared.logs.Found.{Found}
 use Rattle.log_model.specs.Counts.{entry_count}
 use Rattle.log_model.specs.InOrder.{in_order, hit_before}
-use Rattle.log_model.specs.Walk.{Search, WalksBy, AreAllowed, allows_object, allows_subtree, near_ones, needs_of, need_of, hits_of, hit_of, root_need}
+use Rattle.log_model.specs.Walk.{Search, WalksBy, AreAllowed, allows_object, allows_subtree, near_ones, needs_of, hits_of, hit_of, root_need}
 use Rattle.log_model.specs.Sound.{selected, search_for}
 use Rattle.log_model.proofs.Published.{in-in_order, hit_order, Spot, IsSoundSpot, spot_of, objects_of, near_of_sound, same_node, map-append, marks_node, marked_is, met_none, near_needs, pages_needed}
 use Rattle.log_model.specs.Met.{near_objects, near_pages, marked_node, met_from, met}

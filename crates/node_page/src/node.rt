@@ -107,7 +107,7 @@ pub fn place_of(dim: u8, index: usize) -> usize
 }
 
 // Returns whether `count` distances are within the bound. The first stands at the place `first`, each other one `width` bytes behind
-// the one before. The loop looks at all of them: an early end would cost more than the rest.
+// the one before. The loop looks at all of them.
 fn are_bounded(page: &[u8; 4096], first: usize, width: usize, count: usize) -> bool
     requires within { (i : ℕ) → i < count → first + width * i + 8 ≤ 4096 }
     ensures { result ≡ all_of (λ i. nat_le (number_at (first + width * i) 8 page.now) bound) count }

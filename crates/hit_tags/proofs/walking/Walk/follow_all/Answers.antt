@@ -1,4 +1,4 @@
-use Rattle.std.proofs.Common.{◌≡◌, ◌∙◌, ◌∷◌, List, drop, suc, reverse, subst, arith, true, false, Bool}
+use Rattle.std.proofs.Common.{◌∙◌, ◌∷◌, List, drop, suc, reverse, subst, arith, true, false, Bool}
 use Rattle.std.proofs.lemmas.Result.{err_from_is_err_and}
 use Rattle.std.specs.Prelude.{IsTrue}
 use Rattle.page_store.specs.Reading.{Read, nodes_of}
