@@ -1,12 +1,11 @@
-ghost use Rattle.std.specs.Prelude.{ℕ, ◌≡◌, ◌⊎◌, ◌+◌, ◌*◌, ◌/◌, ◌≤◌, ◌<◌, ◌==◌, length, nat_le, true, IfOk, IfErr, Ok, Err, Some, None, slice_index};
-ghost use Rattle.metric_laws.specs.Space.{bound};
+ghost use Rattle.std.specs.Prelude.{ℕ, ◌≡◌, ◌⊎◌, ◌+◌, ◌*◌, ◌/◌, ◌≤◌, ◌<◌, ◌==◌, length, true, IfOk, IfErr, Ok, Err, Some, None, slice_index};
 ghost use Rattle.tree_shape.specs.Fill.{most_for};
 ghost use Rattle.node_page.specs.declared.node.Unread.TheVariants.{Memory};
 ghost use Rattle.tree_shape.specs.Flat.{firsts};
 ghost use Rattle.tree_shape.specs.Entries.{flat_leaves, flat_inners};
 ghost use Rattle.node_page.specs.declared.node.Version.TheVariants.{First};
 ghost use Rattle.node_page.specs.Bytes.{number_at};
-ghost use Rattle.node_page.specs.Nodes.{AreNumbers, SpellsIn, IsUnread, IsValidNode, parent_place, leaf_in, leaf_at, inner_at, place_of, place_in, count_of, all_of, are_near, is_count, is_rest_zero, fault_in, node_in};
+ghost use Rattle.node_page.specs.Nodes.{AreNumbers, SpellsIn, IsUnread, IsValidNode, parent_place, leaf_in, leaf_at, inner_at, place_of, place_in, count_of, near_at, are_near, is_count, is_rest_zero, fault_in, node_in};
 
 use crate::bytes::{are_zero, get_u16, get_u32, get_u64};
 use byteorder::{BigEndian, ByteOrder};
@@ -106,17 +105,14 @@ pub fn place_of(dim: u8, index: usize) -> usize
     place_in(Version::Second, false, dim, index)
 }
 
-// Returns whether `count` distances are within the bound. The first stands at the place `first`, each other one `width` bytes behind
-// the one before. The loop looks at all of them.
-fn are_bounded(page: &[u8; 4096], first: usize, width: usize, count: usize) -> bool
-    requires within { (i : ℕ) → i < count → first + width * i + 8 ≤ 4096 }
-    ensures { result ≡ all_of (λ i. nat_le (number_at (first + width * i) 8 page.now) bound) count }
+// Returns whether the distances of the entry at the place `at` are within the bound.
+#[tactic(auto, unfolding(crate::specs::Nodes::near_at))]
+fn is_near(page: &[u8; 4096], at: usize, version: Version, leaf: bool) -> bool
+    requires { at + parent_place version leaf + 8 ≤ 4096 }
+    ensures { result ≡ near_at version leaf page.now at }
 {
-    let mut bounded = true;
-    for index in 0..count {
-        bounded &= get_u64(page, first + width * index) <= BOUND;
-    }
-    bounded
+    get_u64(page, at + parent_place(version, leaf)) <= BOUND
+        && (leaf || get_u64(page, at + 4) <= BOUND)
 }
 
 // Returns whether the distances of the first `count` entries are within the bound.
@@ -125,10 +121,12 @@ fn are_near(page: &[u8; 4096], dim: u8, version: Version, leaf: bool, count: usi
     requires most { count ≤ most_for dim }
     ensures { result ≡ are_near version dim leaf page.now count }
 {
-    let parent = parent_place(version, leaf);
-    let width = parent + DISTANCE + 4 * usize::from(dim);
-    are_bounded(page, ENTRIES + parent, width, count)
-        && (leaf || are_bounded(page, ENTRIES + 4, width, count))
+    for index in 0..count {
+        if !is_near(page, place_in(version, leaf, dim, index), version, leaf) {
+            return false;
+        }
+    }
+    true
 }
 
 // Returns whether a node may have `count` entries.
