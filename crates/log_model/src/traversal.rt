@@ -1,6 +1,6 @@
 //! The walk of a search that marks each node with the least marks.
 
-ghost use Rattle.std.specs.Prelude.{◌≡◌, ◌++◌, [], ◌∷◌, reverse, IfOk, OnOk};
+ghost use Rattle.std.specs.Prelude.{◌≡◌, ◌≤◌, ◌++◌, [], ◌∷◌, length, take, drop, reverse, IfOk, OnOk};
 ghost use Rattle.metric_laws.specs.Counts.{count_up};
 ghost use Rattle.log_model.specs.Counts.{entry_count, measured_by};
 ghost use Rattle.log_model.specs.Walk.{search_at, least_marks, root_need};
@@ -36,14 +36,13 @@ pub fn entry_count(node: &Node) -> usize
     }
 }
 
-// Puts the needs on the stack, so that the first of them is on top.
-fn put_on_top(stack: &mut Vec<Need>, needs: &mut Vec<Need>) -> Result<(), AllocError>
-    ensures { OnOk result (reverse stack.new.items ≡ needs.old.items ++ reverse stack.old.items) }
+// Reverses the needs from place `from` on, so that the first of them is on top.
+fn turn_over(stack: &mut Vec<Need>, from: usize)
+    requires { from ≤ length stack.old.items }
+    ensures { stack.new.items ≡ take from stack.old.items ++ reverse (drop from stack.old.items) }
 {
-    while let Some(need) = needs.pop() {
-        stack.push(need)?;
-    }
-    Ok(())
+    let (_, needs) = stack.split_at_mut(from);
+    needs.reverse();
 }
 
 impl Traversal {
@@ -89,9 +88,10 @@ impl Traversal {
                 mark_leaf(alloc, ruler, probe, need.above, entries, &mut self.tagged)?
             }
             Node::Inner { entries, .. } => {
-                let mut needs = Vec::new(alloc);
-                let marks = mark_inner(alloc, ruler, probe, need.above, entries, &mut needs)?;
-                put_on_top(&mut self.stack, &mut needs)?;
+                let waiting = self.stack.len();
+                let marks =
+                    mark_inner(alloc, ruler, probe, need.above, entries, &mut self.stack)?;
+                turn_over(&mut self.stack, waiting);
                 marks
             }
         };
