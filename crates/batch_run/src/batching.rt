@@ -10,7 +10,7 @@ ghost use Rattle.image_answers.specs.Outcomes.{ArePagesOf, IsGivenOf, IsOutcomeO
 use crate::dealing::share_evenly;
 use image_answers::{Outcome, cached_pages, nearest_on, range_on};
 use metric_laws::Metric;
-use page_cache::{Cached, KEPT_NODES};
+use page_cache::{KEPT_NODES, Mapped};
 use page_store::{Image, ImagePages};
 use rows_text::{Command, Refusal, Reply};
 use std::alloc::{AllocError, Global};
@@ -21,7 +21,7 @@ use tree_shape::Live;
 /// tags.
 pub fn outcome_of<M: Metric>(
     alloc: Global,
-    pages: &mut Cached<ImagePages<'_>>,
+    pages: &mut Mapped<ImagePages<'_>>,
     metric: M,
     live: &Live,
     command: &Command,

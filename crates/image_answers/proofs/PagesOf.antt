@@ -6,14 +6,15 @@ use Rattle.page_store.specs.declared.image_pages.ImagePages.{ImagePages}
 use Rattle.page_store.specs.Images.{bytes_in}
 use Rattle.page_store.specs.Shelf.{Shelf, HoldsSame}
 use Rattle.page_store.specs.Shelves.{image_shelf}
-use Rattle.page_cache.specs.Cache.{Cache, asked_for}
+use Rattle.page_cache.specs.Cache.{asked_for}
+use Rattle.page_cache.specs.Mapped.{Mapped}
 use Rattle.image_answers.specs.Outcomes.{ArePagesOf, pages_asked}
 
 -- what they mean to a search
-abbrev pub shelf_of : Cache ImagePages → Shelf
+abbrev pub shelf_of : Mapped ImagePages → Shelf
 shelf_of p = asked_for (image_shelf p.inner.dim p.inner.pages (bytes_in p.inner.image) p.inner.asked) p.asked
 
-module _ (s : Space) (live : Live) (image : List ℕ) (p q : Cache ImagePages) (are : ArePagesOf s live image p) where
+module _ (s : Space) (live : Live) (image : List ℕ) (p q : Mapped ImagePages) (are : ArePagesOf s live image p) where
   pub shelf_is : shelf_of p ≡ pages_asked s live image p.asked
   shelf_is = λ i. image_shelf (are.dim i) (are.count i) (are.bytes i) p.asked
 

@@ -15,7 +15,7 @@ use Rattle.tree_shape.specs.declared.live.Live.{Live}
 use Rattle.tree_shape.specs.Tree.{Nodes, IsSoundTree}
 use Rattle.page_store.specs.declared.pages.PageFault.{PageFault}
 use Rattle.page_store.specs.declared.pages.PageFault.TheVariants as page
-use Rattle.page_cache.specs.Cache.{Cache}
+use Rattle.page_cache.specs.Mapped.{Mapped}
 use Rattle.page_store.specs.declared.image_pages.ImagePages.{ImagePages}
 use Rattle.page_store.specs.Images.{bytes_in}
 use Rattle.page_store.specs.Files.{nodes_in}
@@ -158,7 +158,7 @@ IsGivenOf tags s live image c given = (o : Outcome) × IsOutcomeOf s live image 
 -- ---- pages of an image
 
 -- the pages of an image behind a cache
-pub record ArePagesOf (s : Space) (live : Live) (image : List ℕ) (pages : Cache ImagePages) : Type 0 where
+pub record ArePagesOf (s : Space) (live : Live) (image : List ℕ) (pages : Mapped ImagePages) : Type 0 where
   pub dim : pages.inner.dim ≡ s.dimension
   pub count : pages.inner.pages ≡ live.pages
   pub bytes : bytes_in pages.inner.image ≡ image

@@ -1,7 +1,6 @@
 //! Answers queries on a file in memory.
 
-ghost use Rattle.std.specs.Prelude.{◌≡◌, ◌≤◌, ◌^◌, [], Some, true, IfOk};
-ghost use Rattle.lru.specs.LruCache.{lru_cache};
+ghost use Rattle.std.specs.Prelude.{◌≡◌, ◌≤◌, ◌^◌, max, min, replicate, Some, None, true, IfOk};
 ghost use Rattle.rows_text.specs.declared.command.Command.TheVariants as command;
 ghost use Rattle.page_store.specs.Images.{bytes_in};
 ghost use Rattle.image_answers.specs.Outcomes.{ArePagesOf, IsGivenOf, IsOutcomeOf, IsTagged, outcome_of_fault};
@@ -11,7 +10,7 @@ use hit_tags::found_tags;
 use log_model::Found;
 use metric_laws::{Listed, Meter, Metric, Point};
 use nearest_search::nearest;
-use page_cache::{Cached, KEPT_NODES};
+use page_cache::{KEPT_NODES, Mapped};
 use page_store::{Image, ImagePages, PageFault};
 use range_search::range;
 use rows_text::{Refusal, Reply};
@@ -29,21 +28,22 @@ pub fn pages_of<'a, M: Metric>(image: Image<'a>, metric: M, live: &Live) -> Imag
     ImagePages::of(image, metric.dimension() as u8, live.pages)
 }
 
-/// Returns the pages of an image behind an empty cache of at most `pages` nodes.
+/// Returns the pages of an image behind a cache that holds nothing yet. It has a line for each page, and at most `nodes` lines.
 pub fn cached_pages<'a, M: Metric>(
     alloc: Global,
     image: Image<'a>,
     metric: M,
     live: &Live,
     nodes: usize,
-) -> Result<Cached<ImagePages<'a>>, AllocError>
+) -> Result<Mapped<ImagePages<'a>>, AllocError>
     requires pages { live.now.pages ≤ 2 ^ 24 }
     requires some { 1 ≤ nodes }
     ensures pages { IfOk result (ArePagesOf (M.space metric) live.now (bytes_in image.entry)) }
-    ensures kept { IfOk result (λ cached. cached.kept ≡ lru_cache [] nodes) }
-    ensures asked { IfOk result (λ cached. cached.asked ≡ 0) }
+    ensures lines { IfOk result (λ mapped. mapped.lines ≡ replicate (max 1 (min nodes live.now.pages)) None) }
+    ensures asked { IfOk result (λ mapped. mapped.asked ≡ 0) }
 {
-    Cached::new(alloc, pages_of(image, metric, live), nodes)
+    let lines = nodes.min(live.pages as usize).max(1);
+    Mapped::new(alloc, pages_of(image, metric, live), lines)
 }
 
 // Returns the outcome of a query that met a page without a node.
@@ -84,7 +84,7 @@ fn tagged(alloc: Global, found: Found, tags: bool) -> Result<Outcome, AllocError
 /// Arguments: `pages`, `metric` and `live` are the opened file, `q` and `r` the query, and `tags` says whether tags are wanted.
 pub fn range_on<M: Metric>(
     alloc: Global,
-    pages: &mut Cached<ImagePages<'_>>,
+    pages: &mut Mapped<ImagePages<'_>>,
     metric: M,
     live: &Live,
     q: &Point,
@@ -113,7 +113,7 @@ pub fn range_on<M: Metric>(
 /// Arguments: `pages`, `metric` and `live` are the opened file, `q` and `k` the query, and `tags` says whether tags are wanted.
 pub fn nearest_on<M: Metric>(
     alloc: Global,
-    pages: &mut Cached<ImagePages<'_>>,
+    pages: &mut Mapped<ImagePages<'_>>,
     metric: M,
     live: &Live,
     q: &Point,

@@ -14,7 +14,7 @@ use Rattle.node_page.specs.Heads.{IsValidHead}
 use Rattle.node_page.specs.Opening.{OpensTo}
 use Rattle.page_store.specs.declared.image_pages.ImagePages.{ImagePages}
 use Rattle.page_store.specs.Images.{bytes_in}
-use Rattle.page_cache.specs.Cache.{Cache}
+use Rattle.page_cache.specs.Mapped.{Mapped}
 use Rattle.log_model.specs.declared.logs.Log.{Log}
 use Rattle.rows_text.specs.declared.command.Command.{Command}
 use Rattle.rows_text.specs.declared.reply.Reply.TheVariants as reply
@@ -134,14 +134,14 @@ module _ (kind dim : ℕ) (head : Head) (live : Live) (kind_is : kind ≡ head.k
   same_space : mix_space kind dim ≡ space_of head
   same_space = ap (λ (k : ℕ). mix_space k dim) kind_is ∙ ap (λ (d : ℕ). mix_space head.kind d) dim_is
 
-  pub pages_by : (file : List ℕ) (pages : Cache ImagePages) → ArePagesOf (space_of head) live file pages → ArePagesOf (mix_space kind dim) live file pages
+  pub pages_by : (file : List ℕ) (pages : Mapped ImagePages) → ArePagesOf (space_of head) live file pages → ArePagesOf (mix_space kind dim) live file pages
   pages_by file pages are = subst (λ (s : Space). ArePagesOf s live file pages) (sym same_space) are
 
-  pub pages_of : (file : List ℕ) (pages : Cache ImagePages) → ArePagesOf (mix_space kind dim) live file pages → ArePagesOf (space_of head) live file pages
+  pub pages_of : (file : List ℕ) (pages : Mapped ImagePages) → ArePagesOf (mix_space kind dim) live file pages → ArePagesOf (space_of head) live file pages
   pages_of file pages are = subst (λ (s : Space). ArePagesOf s live file pages) same_space are
 
   -- pages that were just put behind a cache
-  pub opened_by : (file : List ℕ) (pages : Cache ImagePages) → OpensTo file head live → head.version ≡ 2 → IsValidHead head → live.pages ≤ 2 ^ 24 → ArePagesOf (mix_space kind dim) live file pages
+  pub opened_by : (file : List ℕ) (pages : Mapped ImagePages) → OpensTo file head live → head.version ≡ 2 → IsValidHead head → live.pages ≤ 2 ^ 24 → ArePagesOf (mix_space kind dim) live file pages
       → IsOpened (bytes_in pages.inner.image) head live pages
   opened_by file pages opens version valid few are =
       subst (λ (x : List ℕ). IsOpened x head live pages) (sym are.bytes)
@@ -169,5 +169,5 @@ module _ (kind dim : ℕ) (head : Head) (live : Live) (kind_is : kind ≡ head.k
       unanswered file head live (command_of (asked.Nearest count) p) (query.Nearest p count) kind dim status opens version kind_is dim_is refl came comes is un
 
 -- the same pages, by the bytes that they hold
-pub opened_at : (file : List ℕ) (head : Head) (live : Live) (pages : Cache ImagePages) → IsOpened file head live pages → IsOpened (bytes_in pages.inner.image) head live pages
+pub opened_at : (file : List ℕ) (head : Head) (live : Live) (pages : Mapped ImagePages) → IsOpened file head live pages → IsOpened (bytes_in pages.inner.image) head live pages
 opened_at file head live pages is = subst (λ (x : List ℕ). IsOpened x head live pages) (sym is.behind.bytes) is

@@ -9,7 +9,7 @@ use Rattle.node_page.specs.Heads.{IsValidHead}
 use Rattle.node_page.specs.Opening.{OpensTo}
 use Rattle.page_store.specs.declared.image_pages.ImagePages.{ImagePages}
 use Rattle.page_store.specs.declared.pages.PageFault.{PageFault}
-use Rattle.page_cache.specs.Cache.{Cache}
+use Rattle.page_cache.specs.Mapped.{Mapped}
 use Rattle.log_model.specs.declared.logs.Log.{Log}
 use Rattle.rows_text.specs.declared.command.Command.{Command}
 use Rattle.rows_text.specs.declared.command.Command.TheVariants as command
@@ -35,7 +35,7 @@ AsksSome (asked.Range radius) = Unit {0}
 AsksSome (asked.Nearest count) = 1 ≤ count
 
 -- the file is of version 2, with this head and this live slot, and these are its pages behind a cache
-pub record IsOpened (file : List ℕ) (head : Head) (live : Live) (pages : Cache ImagePages) : Type 0 where
+pub record IsOpened (file : List ℕ) (head : Head) (live : Live) (pages : Mapped ImagePages) : Type 0 where
   pub opens : OpensTo file head live
   pub version : head.version ≡ 2
   pub valid : IsValidHead head

@@ -14,7 +14,7 @@ use image_answers::{Outcome, cached_pages, nearest_on, range_on};
 use job_files::space_of;
 use metric_laws::{Metric, Point};
 use node_page::Head;
-use page_cache::Cached;
+use page_cache::Mapped;
 use page_store::{Image, ImagePages};
 use scan_model::Hit;
 use std::alloc::{AllocError, Global};
@@ -72,7 +72,7 @@ fn row_of(points: &[u32], dimension: usize, i: usize) -> &[u32]
 // Returns the outcome of `ask` about `point`, with the tags of its hits.
 fn outcome_of<M: Metric>(
     alloc: Global,
-    pages: &mut Cached<ImagePages<'_>>,
+    pages: &mut Mapped<ImagePages<'_>>,
     metric: M,
     live: &Live,
     ask: Ask,
@@ -94,7 +94,7 @@ fn outcome_of<M: Metric>(
 // Answers `ask` about `point` on the pages of a file, or returns the status where there is no answer.
 fn answer_on(
     alloc: Global,
-    pages: &mut Cached<ImagePages<'_>>,
+    pages: &mut Mapped<ImagePages<'_>>,
     opened: &(Head, Live),
     ask: Ask,
     point: &[u32],
@@ -141,7 +141,7 @@ fn push_answer(joined: &mut Joined, answer: Answer) -> Result<(), AllocError>
 // Answers `ask` about each of `rows` points on the pages of a file, or returns the status of the first that has no answer.
 fn answer_rows(
     alloc: Global,
-    pages: &mut Cached<ImagePages<'_>>,
+    pages: &mut Mapped<ImagePages<'_>>,
     opened: &(Head, Live),
     ask: Ask,
     points: &[u32],

@@ -7,7 +7,7 @@ ghost use Rattle.page_cache.specs.Keeping.{Agrees};
 ghost use Rattle.page_cache.specs.Laws.{GrowsTo};
 
 use disk_model::{Disk, MemoryDisk};
-use page_cache::{Cached, Kept, laws};
+use page_cache::{Cached, Kept, Mapped, laws};
 use page_store::{DiskPages, PageFault, Pages};
 use small_trees::{pad, two_leaves};
 use std::alloc::{AllocError, Global};
@@ -120,6 +120,38 @@ fn a_kept_page_is_not_read_again(rt: HostRuntime) {
     check_calls(&rt, 2, &[3, 4, 3, 5, 3, 4], 4);
 }
 
+// Asks pages behind `lines` lines for the pages in `wanted` in turn.
+fn check_mapped<D: Disk>(
+    rt: &(impl AllocGlobal + Abort),
+    disk: &mut D,
+    lines: usize,
+    wanted: &[u32],
+)
+    requires { 1 ≤ lines }
+{
+    let pages = DiskPages::new(disk, 1, 6);
+    let mut pages = Mapped::new(rt.alloc(), pages, lines).expect(rt, "memory");
+    check_pages(rt, &mut pages, wanted);
+}
+
+// Checks that they make `calls` calls of the disk.
+fn check_mapped_calls(rt: &(impl AllocGlobal + Abort), lines: usize, wanted: &[u32], calls: u64)
+    requires { 1 ≤ lines }
+{
+    let mut disk = disk(rt, &[]);
+    check_mapped(rt, &mut disk, lines, wanted);
+    holds(rt, disk.moments() == calls);
+}
+
+#[test]
+fn a_page_is_not_read_again_while_its_line_holds_it(rt: HostRuntime) {
+    check_mapped_calls(&rt, 6, &[5, 3, 4, 5, 3, 4], 3);
+    check_mapped_calls(&rt, 6, &[5, 2, 6, 3, 5, 2, 6, 3], 2);
+    check_mapped_calls(&rt, 1, &[5, 5, 3, 3, 5], 3);
+    // Pages 3 and 5 share a line, and page 4 has the other.
+    check_mapped_calls(&rt, 2, &[3, 4, 3, 5, 4, 3], 4);
+}
+
 // Makes a disk of eight pages.
 fn eight_pages(alloc: Global) -> Result<MemoryDisk, AllocError> {
     let mut bytes = two_leaves(alloc, Vec::new(alloc), 4)?;
@@ -174,20 +206,29 @@ fn a_page_that_is_forgotten_is_read_again(rt: HostRuntime) {
 }
 
 // Asks a cache of one node on a disk whose second call fails.
-fn check_refusal<D: Disk>(rt: &(impl AllocGlobal + Abort), disk: &mut D) {
+fn check_refusal<P: Pages>(rt: &(impl AllocGlobal + Abort), pages: &mut P) {
     let alloc = rt.alloc();
-    let mut pages = Cached::new(alloc, DiskPages::new(disk, 1, 6), 1).expect(rt, "memory");
-    holds(rt, ask(alloc, &mut pages, 3) == Ok(LEFT));
-    holds(rt, ask(alloc, &mut pages, 4) == Err(PageFault::Disk));
-    holds(rt, ask(alloc, &mut pages, 3) == Ok(LEFT));
-    holds(rt, ask(alloc, &mut pages, 4) == Ok(RIGHT));
+    holds(rt, ask(alloc, pages, 3) == Ok(LEFT));
+    holds(rt, ask(alloc, pages, 4) == Err(PageFault::Disk));
+    holds(rt, ask(alloc, pages, 3) == Ok(LEFT));
+    holds(rt, ask(alloc, pages, 4) == Ok(RIGHT));
+}
+
+// Checks it of a cache of what was used last, and of one line.
+fn check_refusals<D: Disk>(rt: &(impl AllocGlobal + Abort), first: &mut D, second: &mut D) {
+    let alloc = rt.alloc();
+    let mut cached = Cached::new(alloc, DiskPages::new(first, 1, 6), 1).expect(rt, "memory");
+    check_refusal(rt, &mut cached);
+    let mut mapped = Mapped::new(alloc, DiskPages::new(second, 1, 6), 1).expect(rt, "memory");
+    check_refusal(rt, &mut mapped);
 }
 
 #[test]
 fn a_refusal_keeps_what_is_kept(rt: HostRuntime) {
-    let mut disk = disk(&rt, &[1]);
-    check_refusal(&rt, &mut disk);
-    holds(&rt, disk.moments() == 3);
+    let mut first = disk(&rt, &[1]);
+    let mut second = disk(&rt, &[1]);
+    check_refusals(&rt, &mut first, &mut second);
+    holds(&rt, (first.moments(), second.moments()) == (3, 3));
 }
 
 // Lends a cache to the pages of a disk for one ask.

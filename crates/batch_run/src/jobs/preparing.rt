@@ -13,7 +13,7 @@ use crate::gathering::all_done;
 use crate::jobs::piles::{Pile, Prepared};
 use image_answers::cached_pages;
 use metric_laws::Metric;
-use page_cache::Cached;
+use page_cache::Mapped;
 use page_store::{Image, ImagePages};
 use par_work::share;
 use rows_text::Command;
@@ -28,7 +28,7 @@ const WORKER_NODES: usize = 16_384;
 // Arguments: `pages`, `metric` and `live` are the opened file, `command` and `show` say what is asked, and `pile` gets the texts.
 fn add_for<M: Metric>(
     alloc: Global,
-    pages: &mut Cached<ImagePages<'_>>,
+    pages: &mut Mapped<ImagePages<'_>>,
     metric: M,
     live: &Live,
     command: &Command,
