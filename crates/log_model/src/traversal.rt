@@ -89,8 +89,7 @@ impl Traversal {
             }
             Node::Inner { entries, .. } => {
                 let waiting = self.stack.len();
-                let marks =
-                    mark_inner(alloc, ruler, probe, need.above, entries, &mut self.stack)?;
+                let marks = mark_inner(alloc, ruler, probe, need.above, entries, &mut self.stack)?;
                 turn_over(&mut self.stack, waiting);
                 marks
             }

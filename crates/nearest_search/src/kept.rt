@@ -9,12 +9,14 @@ use std::alloc::{AllocError, Global};
 use std::collections::HashMap;
 use std::mem;
 
-/// An opening of a page.
-#[derive(Clone, Copy, PartialEq, Eq, Hash)]
+/// An opening of a page. In a sound tree a page is opened once, so its hash is the page's alone.
+#[derive(Clone, Copy, PartialEq, Eq)]
+#[derive_where(Hash)]
 pub struct Turn {
     /// The page.
     pub page: u32,
     /// The distance from the query's point to the routing point above. None stands above the root.
+    #[derive_where(skip(Hash))]
     pub above: Option<u64>,
 }
 
