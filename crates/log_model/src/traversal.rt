@@ -12,8 +12,8 @@ use metric_laws::Ruler;
 use std::alloc::{AllocError, Global};
 use tree_shape::Node;
 
-/// The records that have room at once: many walks open no more nodes.
-const SOME_RECORDS: usize = 64;
+/// The needs that have room at once: in many walks no more wait.
+const SOME_NEEDS: usize = 64;
 
 /// What a walk has named and recorded so far, and what it still has to open.
 #[derive(Drop)]
@@ -46,21 +46,20 @@ fn turn_over(stack: &mut Vec<Need>, from: usize)
 }
 
 impl Traversal {
-    /// Makes a walk that needs only the root.
-    pub fn begin(alloc: Global, root: u32) -> Result<Self, AllocError>
+    /// Makes a walk that needs only the root, with room for `records` records at once.
+    pub fn begin(alloc: Global, root: u32, records: usize) -> Result<Self, AllocError>
         ensures tagged { IfOk result (λ t. t.tagged.items ≡ []) }
         ensures records { IfOk result (λ t. t.records.items ≡ []) }
         ensures stack { IfOk result (λ t. t.stack.items ≡ root_need root ∷ []) }
     {
-        let stack = vec![in alloc;
-            Need {
-                page: root,
-                above: None
-            },
-        ]?;
+        let mut stack = Vec::with_capacity(alloc, SOME_NEEDS)?;
+        stack.push(Need {
+            page: root,
+            above: None,
+        })?;
         Ok(Traversal {
             tagged: Vec::new(alloc),
-            records: Vec::with_capacity(alloc, SOME_RECORDS)?,
+            records: Vec::with_capacity(alloc, records)?,
             stack,
         })
     }

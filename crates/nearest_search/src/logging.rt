@@ -118,18 +118,19 @@ fn take_seen(
 }
 
 /// Walks over what is kept of the opened pages, with the least marks at the final radius `rho`. No page is read and no distance is
-/// computed.
+/// computed. There is room for `room` records at once.
 pub fn rebuild_log(
     alloc: Global,
     rho: u64,
     live: &Live,
     kept: &Kept,
+    room: usize,
 ) -> Result<Traversal, AllocError>
     requires fits { SpansFit kept.now }
     requires few { KeepsFew (kept_seen kept.now) }
     ensures { IfOk result (λ walk. IsRebuiltLog rho (kept_seen kept.now) live.now walk.records.items walk.tagged.items) }
 {
-    let mut walk = Traversal::begin(alloc, live.root)?;
+    let mut walk = Traversal::begin(alloc, live.root, room)?;
     let mut opened = 0u32;
     while let Some(need) = walk.stack.pop() {
         if opened == live.pages {

@@ -70,7 +70,13 @@ pub fn nearest<P: Pages, R: Ruler>(
     let point = Point::new(alloc, q)?;
     let mut machine = Machine::begin(alloc, k, live.root)?;
     let explored = explore(alloc, pages, ruler, q, live, &mut machine)?;
-    let walk = rebuild_log(alloc, explored.rho, live, &machine.kept)?;
+    let walk = rebuild_log(
+        alloc,
+        explored.rho,
+        live,
+        &machine.kept,
+        explored.opened as usize,
+    )?;
     let query = Query::Nearest { q: point, k };
     Ok(Found::of(alloc, live, query, walk)?)
 }

@@ -17,6 +17,9 @@ use scan_model::Query;
 use std::alloc::Global;
 use tree_shape::Live;
 
+/// The records that have room at once: many walks open no more nodes.
+const SOME_RECORDS: usize = 512;
+
 // Opens a page that the walk needs, and processes its node.
 // Clauses: what changes (`opened`, `longer`); what stays (`metric`, `same`, `keeps`); the cost (`asked`, `reads`); the cause of an error
 // (`cause`); faults of the devices (`no_fault`).
@@ -70,7 +73,7 @@ fn follow<P: Pages, R: Ruler>(
     ensures asked { CountsUpTo (P.shelf pages.old).asked (P.shelf pages.new).asked live.now.pages }
     ensures reads { (P.shelf pages.new).reads ≤ (P.shelf pages.old).reads + live.now.pages }
 {
-    let mut walk = Traversal::begin(alloc, live.root)?;
+    let mut walk = Traversal::begin(alloc, live.root, SOME_RECORDS)?;
     let mut opened = 0u32;
     while let Some(need) = walk.stack.pop() {
         if opened == live.pages {
