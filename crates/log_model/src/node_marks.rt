@@ -16,16 +16,21 @@ const SKIPPED: [Mark; ENTRIES] = [Mark::Skip; ENTRIES];
 /// memory of their own. Contracts see the list of them.
 #[derive(Drop)]
 pub struct NodeMarks {
+    // The node's marks, and after them any others, so that all marks of a page are set in one copy.
     marks: SmallVec<Mark, ENTRIES>,
+    // The number of the node's marks.
+    count: usize,
 }
 
 impl Model for NodeMarks {
-    ghost use Rattle.std.specs.Prelude.{List};
+    ghost use Rattle.std.specs.Prelude.{List, take, length, ◌≤◌};
     ghost use Rattle.log_model.specs.declared.marks.Mark.{Mark as TheMark};
 
     ghost Value = { List TheMark };
 
-    ghost view = { λ m. m.marks.items };
+    ghost view = { λ m. take m.count m.marks.items };
+
+    ghost invariant = { λ m. m.count ≤ length m.marks.items };
 }
 
 impl NodeMarks {
@@ -33,8 +38,9 @@ impl NodeMarks {
     pub fn from_slice(alloc: Global, marks: &[Mark]) -> Result<Self, AllocError>
         ensures { IfOk result (λ copy. copy ≡ marks.now) }
     {
+        let count = marks.len();
         let marks = SmallVec::from_slice(alloc, marks)?;
-        Ok(NodeMarks { marks })
+        Ok(NodeMarks { marks, count })
     }
 
     /// Makes the marks of `count` entries that are all marked Skip.
@@ -42,10 +48,11 @@ impl NodeMarks {
         ensures { IfOk result (λ marks. marks ≡ replicate count Skip) }
     {
         if count <= ENTRIES {
-            return NodeMarks::from_slice(alloc, &SKIPPED[..count]);
+            let marks = SmallVec::from_buf(alloc, SKIPPED);
+            return Ok(NodeMarks { marks, count });
         }
         let marks = SmallVec::from_elem(alloc, Mark::Skip, count)?;
-        Ok(NodeMarks { marks })
+        Ok(NodeMarks { marks, count })
     }
 
     /// Marks the entry at `index`.
@@ -60,6 +67,6 @@ impl NodeMarks {
     pub fn as_slice(&self) -> &[Mark]
         ensures { result.now ≡ self.now }
     {
-        self.marks.as_slice()
+        &self.marks.as_slice()[..self.count]
     }
 }

@@ -15,6 +15,9 @@ use tree_shape::Node;
 /// The needs that have room at once: in many walks no more wait.
 const SOME_NEEDS: usize = 64;
 
+/// The hits that have room at once: many walks name no more.
+const SOME_HITS: usize = 16;
+
 /// What a walk has named and recorded so far, and what it still has to open.
 #[derive(Drop)]
 pub struct Traversal {
@@ -58,7 +61,7 @@ impl Traversal {
             above: None,
         })?;
         Ok(Traversal {
-            tagged: Vec::new(alloc),
+            tagged: Vec::with_capacity(alloc, SOME_HITS)?,
             records: Vec::with_capacity(alloc, records)?,
             stack,
         })

@@ -1,7 +1,9 @@
 ghost use Rattle.std.specs.Prelude.{◌≡◌, ◌⊎◌, ◌<◌, ℕ, length, Option, [], Some, IfOk, OnOk};
 ghost use Rattle.std.specs.Option.{option_map};
+ghost use Rattle.std.specs.Map.{lookup};
 ghost use Rattle.nearest_search.specs.Seeing.{seen_on};
-ghost use Rattle.nearest_search.specs.Keeping.{Grows, LiesWithin, SpansFit, blocks_of, kept_seen, seen_at, sights_in};
+ghost use Rattle.nearest_search.specs.declared.kept.Turn.{Turn};
+ghost use Rattle.nearest_search.specs.Keeping.{Grows, LiesWithin, SpansFit, blocks_of, is_turn, kept_seen, seen_at, sights_in};
 
 use crate::seen::{Sheet, Sight};
 use metric_laws::Listed;
@@ -33,11 +35,24 @@ pub struct Span {
     pub is_leaf: bool,
 }
 
-/// The room for openings that is taken at once: most searches of small files and many of large ones open no more pages.
-const SOME_OPENINGS: usize = 112;
+/// The room for openings that is taken at once: many searches open no more pages.
+const SOME_OPENINGS: usize = 224;
+
+/// The room for more openings that is taken where that is used up, so that what is kept of them is moved once.
+const MORE_OPENINGS: usize = 1568;
 
 /// The sights of a block, of 40 KiB.
 const BLOCK: usize = 1024;
+
+// Makes room for more openings, where the room for some is used up.
+fn make_more_room(spans: &mut HashMap<Turn, Span>) -> Result<(), AllocError>
+    ensures { (turn : Turn) → lookup (is_turn turn) spans.new.entries ≡ lookup (is_turn turn) spans.old.entries }
+{
+    if spans.len() == SOME_OPENINGS {
+        spans.reserve(MORE_OPENINGS)?;
+    }
+    Ok(())
+}
 
 /// What was seen at each opening of a page. Sights stand in blocks, so that few openings take memory of their own, and no sight is
 /// copied where there are many.
@@ -113,6 +128,7 @@ impl Kept {
         ensures others { OnOk result ((page : ℕ) (above : Option ℕ) →
             ((page ≡ turn.page) × (above ≡ turn.above)) ⊎ (kept_seen self.new page above ≡ kept_seen self.old page above)) }
     {
+        make_more_room(&mut self.spans)?;
         self.spans.insert(turn, span)?;
         Ok(())
     }

@@ -9,7 +9,7 @@ use crate::pending::Pending;
 use std::alloc::{AllocError, Global};
 
 /// The subtrees that have room at once: in many searches no more wait.
-const SOME_WAITING: usize = 128;
+const SOME_WAITING: usize = 1024;
 
 /// The state of a search between two steps.
 #[derive(Drop)]
@@ -47,7 +47,7 @@ impl Machine {
         let frontier = waiting_root(alloc, root)?;
         Ok(Machine {
             frontier,
-            best: Best::new(alloc, k),
+            best: Best::new(alloc, k)?,
             kept: Kept::new(alloc)?,
         })
     }

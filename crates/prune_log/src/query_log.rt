@@ -24,6 +24,9 @@ const VERSION: u8 = 1;
 /// The greatest number of a point's coordinates.
 const COORDINATES: u8 = 64;
 
+/// The most bytes of a record: its page, the number of its marks, and 32 marks.
+const RECORD_ROOM: usize = 37;
+
 /// The kind of a query.
 #[derive(Clone, Copy)]
 pub enum Asked {
@@ -228,7 +231,8 @@ pub fn encode_log(alloc: Global, log: &Log) -> Result<Vec<u8>, AllocError>
     requires { IsValidLog log.now }
     ensures { IfOk result (λ bytes. bytes.items ≡ log_bytes log.now) }
 {
-    let mut out = Vec::new(alloc);
+    let room = log.records.as_slice().len().saturating_mul(RECORD_ROOM);
+    let mut out = Vec::with_capacity(alloc, room)?;
     put_opening(&mut out)?;
     put_kind(&mut out, &log.query)?;
     put_tree(&mut out, log.generation, log.root)?;

@@ -18,7 +18,7 @@ use std::alloc::Global;
 use tree_shape::Live;
 
 /// The records that have room at once: many walks open no more nodes.
-const SOME_RECORDS: usize = 512;
+const SOME_RECORDS: usize = 1024;
 
 // Opens a page that the walk needs, and processes its node.
 // Clauses: what changes (`opened`, `longer`); what stays (`metric`, `same`, `keeps`); the cost (`asked`, `reads`); the cause of an error

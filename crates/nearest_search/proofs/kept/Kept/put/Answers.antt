@@ -6,7 +6,8 @@ use Rattle.nearest_search.proofs.Turns.{same_turn}
 use Rattle.nearest_search.proofs.kept.Kept.put.Goals as goal
 
 pub returns-clause-fits : goal.returns-clause-fits
-returns-clause-fits c = λ page above. cases page above (is_turn c.args.turn (record { page = page; above = above })) (c.in_ok-insert.ensures.updates.0 (record { page = page; above = above }))
+returns-clause-fits c = λ page above. cases page above (is_turn c.args.turn (record { page = page; above = above })) (c.in_ok-insert.ensures.updates.0 (record { page = page; above = above })
+    ∙ ap (cond (is_turn c.args.turn (record { page = page; above = above })) (Some c.args.span)) (c.in_ok-make_more_room.ensures (record { page = page; above = above })))
   where
     cases : (page : ℕ) (above : Option ℕ) (b : Bool) →
         kept_span (record { full = c.args.self.now.full; last = c.args.self.now.last; spans = c.insert.new.self }) page above ≡ cond b (Some c.args.span) (kept_span c.args.self.now page above) →
@@ -15,7 +16,8 @@ returns-clause-fits c = λ page above. cases page above (is_turn c.args.turn (re
     cases page above false there span is = c.requires.fits page above span (sym there ∙ is)
 
 pub returns-clause-others : goal.returns-clause-others
-returns-clause-others c = λ page above. cases page above (is_turn c.args.turn (record { page = page; above = above })) refl (c.in_ok-insert.ensures.updates.0 (record { page = page; above = above }))
+returns-clause-others c = λ page above. cases page above (is_turn c.args.turn (record { page = page; above = above })) refl (c.in_ok-insert.ensures.updates.0 (record { page = page; above = above })
+    ∙ ap (cond (is_turn c.args.turn (record { page = page; above = above })) (Some c.args.span)) (c.in_ok-make_more_room.ensures (record { page = page; above = above })))
   where
     cases : (page : ℕ) (above : Option ℕ) (b : Bool) → is_turn c.args.turn (record { page = page; above = above }) ≡ b →
         kept_span (record { full = c.args.self.now.full; last = c.args.self.now.last; spans = c.insert.new.self }) page above ≡ cond b (Some c.args.span) (kept_span c.args.self.now page above) →
